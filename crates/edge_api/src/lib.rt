@@ -1,0 +1,13 @@
+//! The outside of the engine: an object store with put-if-absent, seen by the journal of its calls,
+//! streams of bytes, and the actors that make the calls.
+#![tactic(auto)]
+
+mod actor;
+mod bytes;
+mod call;
+mod world;
+
+pub use actor::{Actor, Fed, Stage, Step};
+pub use bytes::{Body, Name};
+pub use call::{Answer, Back, Call, CallKind, Called, JournalEntry, Listed, Listing, Object, Tag};
+pub use world::{Gate, World};
