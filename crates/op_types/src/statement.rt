@@ -1,8 +1,7 @@
 // Statements, as a script has them.
-ghost use Rattle.std.specs.Prelude.{◌≡◌, IfOk};
+ghost use Rattle.std.specs.Prelude.{◌≡◌};
 
-use row_base::{Column, NoMemory, Rows};
-use std::alloc::Global;
+use row_base::{Column, Rows};
 use std::marker::Model;
 
 /// The columns of a table, in order.
@@ -34,34 +33,12 @@ impl Columns {
     {
         &self.columns
     }
-
-    /// The same columns. The error is want of memory.
-    pub fn copy(&self, alloc: Global) -> Result<Columns, NoMemory>
-        ensures { IfOk result (λ c. c ≡ self.now) }
-    {
-        let mut columns = Vec::new(alloc);
-        for column in &self.columns {
-            columns.push(column.copy()?)?;
-        }
-        Ok(Columns { columns })
-    }
 }
 
 /// A table that is to be made.
 #[derive(Drop)]
 pub struct TableSpec {
     pub columns: Columns,
-}
-
-impl TableSpec {
-    /// The same table. The error is want of memory.
-    pub fn copy(&self, alloc: Global) -> Result<TableSpec, NoMemory>
-        ensures { IfOk result (λ t. t ≡ self.now) }
-    {
-        Ok(TableSpec {
-            columns: self.columns.copy(alloc)?,
-        })
-    }
 }
 
 /// A statement of a session.
