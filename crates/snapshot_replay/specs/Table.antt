@@ -1,5 +1,5 @@
 -- Commits, and the table that they leave (PROTOCOL.md, "Action Reconciliation").
-use Rattle.std.specs.Prelude.{ℕ, zero, suc, Bool, if◌then◌else◌, List, [], ◌∷◌, Option, Some, None}
+use Rattle.std.specs.Prelude.{ℕ, zero, suc, Bool, true, false, if◌then◌else◌, List, [], ◌∷◌, Option, Some, None}
 use Rattle.std.specs.Str.{bytes_eq}
 use Rattle.std.specs.Ordering.{is_lt, nat_cmp}
 use Rattle.std.specs.Cmp.Lexicographic.{slice_cmp}
@@ -20,6 +20,14 @@ pub record Commit : Type 0 where
   pub lines : List Action
   pub blind : Bool
   pub changes : Bool
+
+-- a commit that makes a table of these columns
+abbrev pub table_commit : List (List ℕ) → Commit
+table_commit columns = record { columns = Some columns; lines = []; blind = false; changes = true }
+
+-- a commit that appends one file
+abbrev pub append_commit : List ℕ → Commit
+append_commit path = record { columns = None; lines = Adds (record { path = path; stats = [] }) ∷ []; blind = true; changes = true }
 
 abbrev pub without_path : List Add → List ℕ → List Add
 without_path [] path = []

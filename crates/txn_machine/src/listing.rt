@@ -1,0 +1,69 @@
+// What a listing of the log says of the commits.
+ghost use Rattle.std.specs.Prelude.{◌≡◌, ◌≤◌, ◌<◌, ◌+◌, ◌^◌, Bool, List, length, IfOk};
+ghost use Rattle.edge_api.specs.declared.call.Listed.{Listed as AListed};
+ghost use Rattle.txn_machine.specs.Phases.{newest, missing, commit_version};
+ghost use Rattle.txn_machine.specs.Listing.{Marks, last_unmarked};
+
+use edge_api::{Listed, Name};
+use std::alloc::{AllocError, Global};
+use table_rules::{read_log_name, LogName};
+
+/// The version whose commit has the name.
+fn commit_version(name: &Name) -> Option<u64>
+    ensures { result ≡ commit_version name.now }
+{
+    match read_log_name(name) {
+        LogName::Commit(version) => Some(version),
+        _ => None,
+    }
+}
+
+/// The greater of two versions, if there are any.
+fn later(first: Option<u64>, second: Option<u64>) -> Option<u64>
+    ensures { result ≡ later first second }
+{
+    match (first, second) {
+        (Some(a), Some(b)) => Some(a.max(b)),
+        (Some(a), None) => Some(a),
+        (None, second) => second,
+    }
+}
+
+/// The greatest version that is listed.
+pub fn newest_version(listing: &[Listed]) -> Option<u64>
+    ensures { result ≡ newest listing.now }
+{
+    let mut found = None;
+    for listed in listing {
+        found = later(found, commit_version(&listed.name));
+    }
+    found
+}
+
+/// Marks the place of a version, where it is among those from the first on.
+fn mark(marks: &mut [bool], first: u64, version: Option<u64>)
+    ensures { Marks first version marks.old marks.new }
+{
+    if let Some(version) = version {
+        if version >= first && version - first < marks.len() as u64 {
+            marks[(version - first) as usize] = true;
+        }
+    }
+}
+
+/// The greatest version that isn't listed, of so many from the first on. The error is want of memory.
+pub fn missing_version(
+    alloc: Global,
+    listing: &[Listed],
+    first: u64,
+    count: usize,
+) -> Result<Option<u64>, AllocError>
+    requires { first + count ≤ 2 ^ 62 }
+    ensures { IfOk result (λ version. version ≡ missing listing.now first count) }
+{
+    let mut marks = vec![in alloc; false; count]?;
+    for listed in listing {
+        mark(&mut marks, first, commit_version(&listed.name));
+    }
+    Ok(last_unmarked(&marks, first))
+}

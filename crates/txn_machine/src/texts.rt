@@ -1,0 +1,67 @@
+// Commits and data files that were got.
+ghost use Rattle.std.specs.Prelude.{◌≡◌, ◌≤◌, suc, length, OnErr};
+ghost use Rattle.txn_machine.specs.Texts.{read_commit, commit_fault, read_file, file_fault};
+ghost use Rattle.txn_machine.specs.Reading.{Applies, ReadsFile};
+
+use edge_api::Body;
+use line_texts::{read_add, read_columns, read_rows, TextFault};
+use op_types::{LogFaultKind, ObjectFault};
+use row_base::Rows;
+use snapshot_replay::State;
+use std::alloc::Global;
+
+/// Why an object's bytes were not taken.
+#[derive(Drop)]
+pub enum Unread {
+    Bad(ObjectFault),
+    NoMemory,
+}
+
+fn unread(fault: TextFault) -> Unread {
+    match fault {
+        TextFault::Line(line) => Unread::Bad(ObjectFault::Line {
+            line,
+            kind: LogFaultKind::Shape,
+        }),
+        TextFault::NoMemory => Unread::NoMemory,
+    }
+}
+
+/// Applies a version's commit to the table.
+pub fn apply_commit(
+    alloc: Global,
+    state: &mut State,
+    version: u64,
+    text: &Body,
+) -> Result<(), Unread>
+    ensures applies { Applies (read_commit version text.now) (commit_fault version text.now) state.old state.new result }
+    ensures more { length state.new.files ≤ suc (length state.old.files) }
+{
+    if version == 0 {
+        match read_columns(alloc, text.as_bytes()) {
+            Ok(columns) => {
+                state.set_columns(columns);
+                Ok(())
+            }
+            Err(fault) => Err(unread(fault)),
+        }
+    } else {
+        match read_add(alloc, text.as_bytes()) {
+            Ok(path) => match state.add_file(path) {
+                Ok(()) => Ok(()),
+                Err(_) => Err(Unread::NoMemory),
+            },
+            Err(fault) => Err(unread(fault)),
+        }
+    }
+}
+
+/// The rows of a data file.
+pub fn rows_of_file(alloc: Global, text: &Body) -> Result<Rows, Unread>
+    ensures { ReadsFile (read_file text.now) (file_fault text.now) result }
+{
+    match read_rows(alloc, text.as_bytes()) {
+        Ok(rows) => Ok(rows),
+        Err(fault) => Err(unread(fault)),
+    }
+}
