@@ -101,13 +101,16 @@ AtCommit reply tries start first j landed es =
 abbrev pub committed : ℕ → Landed → Reply
 committed read l = Committed l.version read l.attempts NotDue
 
+-- a data file is put, then its commit
+abbrev pub AtData : ℕ → List ℕ → List ℕ → ℕ → ℕ → Option Reply → Entries → Type 0
+AtData limit path body start read reply es =
+    AtPutNew (IsOpen reply) path body (Ends reply (refusal.Fault (called kind.PutNew path)))
+    (λ rest. AtCommit reply limit start (read + 1) (record { text = text_of_add path; makes_table = false }) (committed read) rest) (Ends reply (refusal.NameTaken path)) es
+
 module _ (tag : Tag) (limit : ℕ) where
   -- an append of rows: its data file, then its commit
   abbrev pub Appends : List (List Datum) → ℕ → ℕ → Option Reply → Entries → Type 0
-  Appends rows start read reply es =
-      AtPutNew (IsOpen reply) (data_text tag start 0) (text_of_rows rows) (Ends reply (refusal.Fault (called kind.PutNew (data_text tag start 0))))
-      (λ rest. AtCommit reply limit start (read + 1) (record { text = text_of_add (data_text tag start 0); makes_table = false }) (committed read) rest)
-      (Ends reply (refusal.NameTaken (data_text tag start 0))) es
+  Appends rows start read reply es = AtData limit (data_text tag start 0) (text_of_rows rows) start read reply es
 
   -- a select: its files, then their rows
   abbrev pub Selects : ℕ → Option Reply → Snapshot → Entries → Type 0
@@ -139,8 +142,10 @@ module _ (tag : Tag) (limit : ℕ) where
   AfterListing kept (Insert rows) start reply l es = Loads kept (Insert rows) start l reply (newest l) es
   AfterListing kept Select start reply l es = Loads kept Select start l reply (newest l) es
 
+  -- the log is listed
+  abbrev pub AtLog : Option Kept → Statement → ℕ → Option Reply → Entries → Type 0
+  AtLog kept statement start reply es = AtList (IsOpen reply) log_prefix (Ends reply (refusal.Fault (called kind.List log_prefix))) (AfterListing kept statement start reply) es
+
   -- the start of the statement, the listing of the log, and what follows
   abbrev pub Answered : Option Kept → Statement → Entries → Option Reply → Type 0
-  Answered kept statement es reply =
-      AtNow (IsOpen reply) (Ends reply (refusal.Fault (called kind.Now [])))
-      (λ start rest. AtList (IsOpen reply) log_prefix (Ends reply (refusal.Fault (called kind.List log_prefix))) (λ l rest. AfterListing kept statement start reply l rest) rest) es
+  Answered kept statement es reply = AtNow (IsOpen reply) (Ends reply (refusal.Fault (called kind.Now []))) (λ start rest. AtLog kept statement start reply rest) es

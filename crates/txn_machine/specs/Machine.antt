@@ -1,19 +1,21 @@
 -- Where a statement stands between two calls, and what is still to come.
-use Rattle.std.specs.Prelude.{◌≡◌, ◌⊎◌, ℕ, suc, ◌+◌, ◌*◌, length, List, [], ◌∷◌, ◌++◌, Option, Some, None, AllocError, Result, Ok, Err}
+use Rattle.std.specs.Prelude.{◌≡◌, ◌⊎◌, ℕ, suc, ◌+◌, ◌*◌, length, Bool, true, false, List, [], ◌∷◌, ◌++◌, Option, Some, None, Result, Ok, Err}
+use Rattle.std.specs.declared.alloc.AllocError.{AllocError}
 use Rattle.edge_api.specs.declared.call.Tag.{Tag}
 use Rattle.edge_api.specs.declared.call.Call.{Call}
 use Rattle.edge_api.specs.declared.call.Call.TheVariants.{Get, PutNew, List as ListNames, Now}
-use Rattle.edge_api.specs.declared.call.CallKind.TheVariants as kind
 use Rattle.edge_api.specs.declared.call.Answer.{Answer}
+use Rattle.edge_api.specs.declared.actor.Fed.{Fed}
+use Rattle.edge_api.specs.declared.actor.Fed.TheVariants as fed
 use Rattle.op_types.specs.declared.refusal.Refusal.TheVariants as refusal
 use Rattle.op_types.specs.declared.refusal.Clash.{Clash}
 use Rattle.op_types.specs.declared.reply.Reply.{Reply}
 use Rattle.op_types.specs.declared.reply.Reply.TheVariants.{Created, Refused}
 use Rattle.table_rules.specs.Names.{log_prefix, commit_text}
-use Rattle.line_texts.specs.Texts.{text_of_add}
-use Rattle.call_phases.specs.Phases.{Entries, AtList, AtPutNew}
+use Rattle.call_phases.specs.Phases.{Entries}
 use Rattle.call_phases.specs.Ending.{Ending, ThenBy}
 use Rattle.committer.specs.Attempts.{Lost, Won}
+use Rattle.committer.specs.declared.fault.AttemptFault.{AttemptFault}
 use Rattle.committer.specs.declared.fault.Landed.{Landed}
 use Rattle.committer.specs.Machine as attempts
 use Rattle.txn_machine.specs.declared.judge.CommitJudge.{CommitJudge}
@@ -24,12 +26,17 @@ use Rattle.txn_machine.specs.declared.stage.Ahead.{Ahead}
 use Rattle.txn_machine.specs.declared.stage.Attempting.{Attempting}
 use Rattle.txn_machine.specs.Judging.{Bodies, Judges}
 use Rattle.txn_machine.specs.Phases.{IsOpen, Ends, Replies, called, AtLoad, AtFiles}
-use Rattle.txn_machine.specs.Answered.{refusal_of, AtCommit, committed, Selected, AfterLoad, AfterListing, Answered}
+use Rattle.txn_machine.specs.Answered.{refusal_of, AtCommit, committed, Selected, AfterLoad, AtLog, AtData, Answered}
 
 -- the reply once the commit has landed, by the version that was read
 abbrev pub landed_after : Option ℕ → Landed → Reply
 landed_after None l = Created
 landed_after (Some read) l = committed read l
+
+-- the reply of a statement whose attempts ended so
+abbrev pub reply_after : Option ℕ → Result Landed (AttemptFault Clash) → Reply
+reply_after read (Ok l) = landed_after read l
+reply_after read (Err f) = Refused (refusal_of f)
 
 -- what follows the attempts, by how they ended
 abbrev pub AfterAttempts : Option ℕ → Option Reply → Ending (Lost CommitJudge Clash) (Won CommitJudge) → Type 0
@@ -42,13 +49,10 @@ AtAttempting a reply es = (o : Ending (Lost CommitJudge Clash) (Won CommitJudge)
 -- what the entries still to come have to be
 abbrev pub Rest : Plan → Stage → Entries → Option Reply → Type 0
 Rest p (stage.Start s) es reply = Answered p.tag p.limit None s.statement es reply
-Rest p (stage.Listing l) es reply =
-    AtList (IsOpen reply) log_prefix (Ends reply (refusal.Fault (called kind.List log_prefix))) (λ names rest. AfterListing p.tag p.limit None l.statement l.start reply names rest) es
+Rest p (stage.Listing l) es reply = AtLog p.tag p.limit None l.statement l.start reply es
 Rest p (stage.Loading l) es reply = AtLoad reply (suc l.left) l.at l.state (AfterLoad p.tag p.limit l.statement l.start l.read reply) es
 Rest p (stage.Files f) es reply = AtFiles reply f.left.items f.got.items (Selected f.read f.live reply) es
-Rest p (stage.Data d) es reply =
-    AtPutNew (IsOpen reply) d.path d.body (Ends reply (refusal.Fault (called kind.PutNew d.path)))
-    (λ rest. AtCommit reply p.limit d.start (d.read + 1) (record { text = text_of_add d.path; makes_table = false }) (committed d.read) rest) (Ends reply (refusal.NameTaken d.path)) es
+Rest p (stage.Data d) es reply = AtData p.limit d.path d.body d.start d.read reply es
 Rest p (stage.Attempting a) es reply = AtAttempting a reply es
 Rest p (stage.Done r) es reply = Replies reply r es
 
@@ -70,6 +74,11 @@ call_of (stage.Done r) = None
 -- an answered call leads from old to new
 abbrev pub Follows : Plan → Stage → Call → Answer → Stage → Type 0
 Follows p old call answer new = (es : Entries) (reply : Option Reply) → Rest p new es reply → Rest p old (record { tag = p.tag; call = call; answer = answer } ∷ es) reply
+
+-- an answer, or want of memory, leads from old to new
+abbrev pub FedTo : Plan → Stage → Call → Fed → Stage → Type 0
+FedTo p old call (fed.Answer answer) new = Follows p old call answer new
+FedTo p old call fed.NoMemory new = (reply : Option Reply) → Rest p new [] reply → Rest p old [] reply
 
 -- a number that falls with each answer, and is 0 exactly at the end
 abbrev pub left_of : Plan → Stage → ℕ

@@ -1,8 +1,8 @@
 // What a listing of the log says of the commits.
-ghost use Rattle.std.specs.Prelude.{◌≡◌, ◌≤◌, ◌<◌, ◌+◌, ◌^◌, Bool, List, length, IfOk};
+ghost use Rattle.std.specs.Prelude.{◌≡◌, ◌≤◌, ◌<◌, ◌+◌, ◌^◌, ℕ, Bool, List, length, IfOk};
 ghost use Rattle.edge_api.specs.declared.call.Listed.{Listed as AListed};
-ghost use Rattle.txn_machine.specs.Phases.{newest, missing, commit_version};
-ghost use Rattle.txn_machine.specs.Listing.{Marks, last_unmarked};
+ghost use Rattle.txn_machine.specs.Phases.{newest, missing, commit_version, later, is_listed};
+ghost use Rattle.txn_machine.specs.Listing.{Marks, mark_at};
 
 use edge_api::{Listed, Name};
 use std::alloc::{AllocError, Global};
@@ -30,6 +30,7 @@ fn later(first: Option<u64>, second: Option<u64>) -> Option<u64>
 }
 
 /// The greatest version that is listed.
+#[tactic(auto, using(crate::proofs::Listings::later_assoc, crate::proofs::Listings::later_none))]
 pub fn newest_version(listing: &[Listed]) -> Option<u64>
     ensures { result ≡ newest listing.now }
 {
@@ -51,6 +52,39 @@ fn mark(marks: &mut [bool], first: u64, version: Option<u64>)
     }
 }
 
+/// The greatest version that has no mark, of those from the first on.
+fn last_unmarked(marks: &[bool], first: u64, listing: &[Listed]) -> Option<u64>
+    requires marked { (k : ℕ) → k < length marks.now → mark_at marks.now k ≡ is_listed (first + k) listing.now }
+    requires bound { first + length marks.now ≤ 2 ^ 62 }
+    ensures { result ≡ missing listing.now first (length marks.now) }
+{
+    let mut count = marks.len();
+    while count > 0 {
+        count -= 1;
+        if !marks[count] {
+            return Some(first + count as u64);
+        }
+    }
+    None
+}
+
+/// Marks the versions that are listed, of so many from the first on. The error is want of memory.
+fn marks_of(
+    alloc: Global,
+    listing: &[Listed],
+    first: u64,
+    count: usize,
+) -> Result<Vec<bool>, AllocError>
+    ensures same { IfOk result (λ marks. length marks.items ≡ count) }
+    ensures marked { IfOk result (λ marks. (k : ℕ) → k < count → mark_at marks.items k ≡ is_listed (first + k) listing.now) }
+{
+    let mut marks = vec![in alloc; false; count]?;
+    for listed in listing {
+        mark(&mut marks, first, commit_version(&listed.name));
+    }
+    Ok(marks)
+}
+
 /// The greatest version that isn't listed, of so many from the first on. The error is want of memory.
 pub fn missing_version(
     alloc: Global,
@@ -61,9 +95,6 @@ pub fn missing_version(
     requires { first + count ≤ 2 ^ 62 }
     ensures { IfOk result (λ version. version ≡ missing listing.now first count) }
 {
-    let mut marks = vec![in alloc; false; count]?;
-    for listed in listing {
-        mark(&mut marks, first, commit_version(&listed.name));
-    }
-    Ok(last_unmarked(&marks, first))
+    let marks = marks_of(alloc, listing, first, count)?;
+    Ok(last_unmarked(&marks, first, listing))
 }

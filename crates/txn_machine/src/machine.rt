@@ -1,5 +1,5 @@
 // A statement goes on with each answer.
-ghost use Rattle.std.specs.Prelude.{◌≡◌, ◌+◌, ◌*◌, ◌<◌, ◌≤◌, ◌^◌, ◌-◌, ℕ, suc, length, List, [], ◌∷◌, ◌++◌, ◌⊎◌, Option, IfOk, IfSome, IsSomeAnd, None};
+ghost use Rattle.std.specs.Prelude.{◌≡◌, ◌+◌, ◌*◌, ◌<◌, ◌≤◌, ◌^◌, ◌-◌, ℕ, suc, length, List, [], ◌∷◌, ◌++◌, ◌⊎◌, Option, IfOk, IfSome, IsSomeAnd, None, Some, OnErr, is_none};
 ghost use Rattle.std.specs.declared.result.Result.{Result as AResult};
 ghost use Rattle.edge_api.specs.declared.call.Call.TheVariants as call;
 ghost use Rattle.edge_api.specs.declared.call.Listed.{Listed as AListed};
@@ -11,25 +11,25 @@ ghost use Rattle.line_texts.specs.Texts.{text_of_add, text_of_rows, text_of_colu
 ghost use Rattle.snapshot_replay.specs.Table.{no_table, paths_of};
 ghost use Rattle.call_phases.specs.Phases.{Entries};
 ghost use Rattle.txn_machine.specs.Phases.{AtLoad, AtFiles, Cut, missing, newest};
-ghost use Rattle.txn_machine.specs.Answered.{rows_of_files, Sorts, Selected, Selects, Appends, AfterLoad, AfterListing, Loads, Makes, AtCommit, committed, names_of, IsSelected};
-ghost use Rattle.txn_machine.specs.Machine.{Rest, Follows, call_of, left_of, ahead_of, or_no_memory, first_get};
+ghost use Rattle.txn_machine.specs.Answered.{AtLog, AtData, rows_of_files, Sorts, Selected, Selects, Appends, AfterLoad, AfterListing, Loads, Makes, AtCommit, committed, names_of, refusal_of, IsSelected};
+ghost use Rattle.edge_api.specs.Actor.{IsFit};
+ghost use Rattle.committer.specs.Machine as attempts;
+ghost use Rattle.committer.specs.Machine.{IsReady};
+ghost use Rattle.txn_machine.specs.Machine.{reply_after, landed_after, AtAttempting, FedTo, Rest, Follows, call_of, left_of, ahead_of, or_no_memory, first_get};
 
 use crate::listing::{missing_version, newest_version};
 use crate::stage::{Ahead, Attempting, DataPut, Files, Listing, Loading, Plan, Stage, Start};
 use crate::texts::{apply_commit, rows_of_file, Unread};
 use crate::CommitJudge;
-use committer::Attempts;
-use edge_api::{Answer, Body, Call, CallKind, Called, Listed, Name};
+use committer::{AttemptFault, Attempts, Landed};
+use edge_api::{Answer, Body, Call, CallKind, Called, Fed, Listed, Name};
 use line_texts::{write_add, write_columns, write_rows};
-use op_types::{Feature, ObjectFault, Refusal, Reply, Statement, TableSpec};
-use row_base::{cmp_rows, Row, Rows, ScannedFile, Text};
+use op_types::{CheckpointOutcome, Clash, Feature, ObjectFault, Refusal, Reply, Statement, TableSpec};
+use row_base::{cmp_rows, Column, NoMemory, Row, Rows, ScannedFile, Text};
 use snapshot_replay::State;
 use std::alloc::{AllocError, Global};
 use std::collections::VecDeque;
 use table_rules::{commit_name, data_file_name, log_prefix};
-
-/// How long a commit may take, doubled, in milliseconds: one week.
-const RETENTION: u64 = 604_800_000;
 
 /// The first version that isn't supported.
 const VERSION_LIMIT: u64 = 1_048_576;
@@ -49,7 +49,7 @@ fn sorted_rows(alloc: Global, files: Vec<ScannedFile>) -> Result<Rows, AllocErro
 
 impl Ahead {
     /// Nothing is called any more.
-    fn done(reply: Reply) -> Ahead
+    pub fn done(reply: Reply) -> Ahead
         ensures { result ≡ ahead_of (Stage.Done reply) }
     {
         Ahead {
@@ -58,14 +58,14 @@ impl Ahead {
         }
     }
 
-    fn refused(refusal: Refusal) -> Ahead
+    pub fn refused(refusal: Refusal) -> Ahead
         ensures { result ≡ ahead_of (Stage.Done (Reply.Refused refusal)) }
     {
         Ahead::done(Reply::Refused(refusal))
     }
 
     /// The store answered a call by a fault.
-    fn faulted(kind: CallKind, name: Name) -> Ahead
+    pub fn faulted(kind: CallKind, name: Name) -> Ahead
         ensures { result ≡ ahead_of (Stage.Done (Reply.Refused (Refusal.Fault (record { kind = kind; name = name })))) }
     {
         Ahead::refused(Refusal::Fault {
@@ -74,7 +74,7 @@ impl Ahead {
     }
 
     /// What was made, or the end for want of memory.
-    fn or_no_memory(made: Result<Ahead, AllocError>) -> Ahead
+    pub fn or_no_memory(made: Result<Ahead, AllocError>) -> Ahead
         ensures { result ≡ or_no_memory made }
     {
         match made {
@@ -83,48 +83,16 @@ impl Ahead {
         }
     }
 
-    /// The log is listed next. The error is want of memory.
-    fn listing(alloc: Global, statement: Statement, start: u64) -> Result<Ahead, AllocError>
-        ensures { IfOk result (λ a. (a.stage ≡ Stage.Listing (record { statement = statement; start = start; prefix = log_prefix })) × (a.call ≡ call_of a.stage)) }
+    /// A commit that is needed isn't listed. The error is want of memory.
+    pub fn log_gone(alloc: Global, version: u64) -> Result<Ahead, AllocError>
+        ensures { IfOk result (λ a. a ≡ ahead_of (Stage.Done (Reply.Refused (Refusal.LogGone (commit_text version))))) }
     {
-        let prefix = log_prefix(alloc)?;
-        let call = Some(Call::List(prefix.copy()?));
-        let stage = Stage::Listing(Listing {
-            statement,
-            start,
-            prefix,
-        });
-        Ok(Ahead { stage, call })
-    }
-
-    /// The commit of a version is got next, and so many after it. The error is want of memory.
-    fn loading(
-        alloc: Global,
-        statement: Statement,
-        start: u64,
-        at: u64,
-        left: u64,
-        state: State,
-    ) -> Result<Ahead, AllocError>
-        requires { at + left < 2 ^ 20 }
-        ensures { IfOk result (λ a. (a.stage ≡ Stage.Loading (record { statement = statement; start = start; read = at + left; at = at; left = left; state = state; name = commit_text at })) × (a.call ≡ call_of a.stage)) }
-    {
-        let name = commit_name(alloc, at)?;
-        let call = Some(Call::Get(name.copy()?));
-        let stage = Stage::Loading(Loading {
-            statement,
-            start,
-            read: at + left,
-            at,
-            left,
-            state,
-            name,
-        });
-        Ok(Ahead { stage, call })
+        let name = commit_name(alloc, version)?;
+        Ok(Ahead::refused(Refusal::LogGone { name }))
     }
 
     /// The first of the data files is got next. The error is want of memory.
-    fn files(files: Files) -> Result<Ahead, AllocError>
+    pub fn files(files: Files) -> Result<Ahead, AllocError>
         ensures { IfOk result (λ a. a ≡ ahead_of (Stage.Files files)) }
     {
         let call = match files.left.front() {
@@ -134,34 +102,142 @@ impl Ahead {
         let stage = Stage::Files(files);
         Ok(Ahead { stage, call })
     }
+}
 
-    /// A data file is put next. The error is want of memory.
-    fn data(start: u64, read: u64, path: Name, body: Body) -> Result<Ahead, AllocError>
-        requires { read < 2 ^ 20 }
-        ensures { IfOk result (λ a. a ≡ ahead_of (Stage.Data (record { start = start; read = read; path = path; body = body }))) }
+/// The listing of the log with its call. The error is want of memory.
+fn make_listing(
+    alloc: Global,
+    statement: Statement,
+    start: u64,
+) -> Result<(Listing, Call), AllocError>
+    ensures statement { IfOk result (λ x. x.0.statement ≡ statement) }
+    ensures start { IfOk result (λ x. x.0.start ≡ start) }
+    ensures call { IfOk result (λ x. x.1 ≡ call.List log_prefix) }
+{
+    let prefix = log_prefix(alloc)?;
+    let call = Call::List(prefix.copy()?);
+    let listing = Listing {
+        statement,
+        start,
+        prefix,
+    };
+    Ok((listing, call))
+}
+
+/// The load of a version, and of so many after it, with its first call. The error is want of memory.
+fn make_loading(
+    alloc: Global,
+    statement: Statement,
+    start: u64,
+    at: u64,
+    left: u64,
+    state: State,
+) -> Result<(Loading, Call), AllocError>
+    requires { at + left < 2 ^ 20 }
+    ensures statement { IfOk result (λ x. x.0.statement ≡ statement) }
+    ensures start { IfOk result (λ x. x.0.start ≡ start) }
+    ensures read { IfOk result (λ x. x.0.read ≡ at + left) }
+    ensures at { IfOk result (λ x. x.0.at ≡ at) }
+    ensures left { IfOk result (λ x. x.0.left ≡ left) }
+    ensures state { IfOk result (λ x. x.0.state ≡ state) }
+    ensures call { IfOk result (λ x. x.1 ≡ call.Get (commit_text at)) }
+{
+    let name = commit_name(alloc, at)?;
+    let call = Call::Get(name.copy()?);
+    let loading = Loading {
+        statement,
+        start,
+        read: at + left,
+        at,
+        left,
+        state,
+        name,
+    };
+    Ok((loading, call))
+}
+
+/// The put of a data file with its call. The error is want of memory.
+fn make_put(
+    start: u64,
+    read: u64,
+    path: Name,
+    body: Body,
+) -> Result<(DataPut, Call), AllocError>
+    requires { read < 2 ^ 20 }
+    ensures start { IfOk result (λ x. x.0.start ≡ start) }
+    ensures read { IfOk result (λ x. x.0.read ≡ read) }
+    ensures path { IfOk result (λ x. x.0.path ≡ path) }
+    ensures body { IfOk result (λ x. x.0.body ≡ body) }
+    ensures call { IfOk result (λ x. x.1 ≡ call.PutNew path body) }
+{
+    let call = Call::PutNew(path.copy()?, body.copy()?);
+    let put = DataPut {
+        start,
+        read,
+        path,
+        body,
+    };
+    Ok((put, call))
+}
+
+impl Plan {
+    /// The log is listed.
+    fn lists(self, statement: Statement, start: u64) -> Ahead
+        ensures ready { result.call ≡ call_of result.stage }
+        ensures follows { (es : Entries) (reply : Option AReply) → Rest self result.stage es reply → AtLog self.tag self.limit None statement start reply es }
+        ensures falls { left_of self result.stage ≤ 3 * self.limit + 2097199 }
     {
-        let call = Some(Call::PutNew(path.copy()?, body.copy()?));
-        let stage = Stage::Data(DataPut {
-            start,
-            read,
-            path,
-            body,
-        });
-        Ok(Ahead { stage, call })
+        match make_listing(self.alloc, statement, start) {
+            Ok((listing, call)) => Ahead {
+                stage: Stage::Listing(listing),
+                call: Some(call),
+            },
+            Err(_) => Ahead::refused(Refusal::NoMemory),
+        }
+    }
+
+    /// The commit of a version is got, and so many after it.
+    fn gets(self, statement: Statement, start: u64, at: u64, left: u64, state: State) -> Ahead
+        requires { at + left < 2 ^ 20 }
+        ensures ready { result.call ≡ call_of result.stage }
+        ensures follows { (es : Entries) (reply : Option AReply) → Rest self result.stage es reply → AtLoad reply (suc left) at state (AfterLoad self.tag self.limit statement start (at + left) reply) es }
+        ensures falls { left_of self result.stage ≤ length state.files + 2 * left + 3 * self.limit + 12 }
+    {
+        match make_loading(self.alloc, statement, start, at, left, state) {
+            Ok((loading, call)) => Ahead {
+                stage: Stage::Loading(loading),
+                call: Some(call),
+            },
+            Err(_) => Ahead::refused(Refusal::NoMemory),
+        }
+    }
+
+    /// A data file is put.
+    fn puts(self, start: u64, read: u64, path: Name, body: Body) -> Ahead
+        requires { read < 2 ^ 20 }
+        ensures ready { result.call ≡ call_of result.stage }
+        ensures follows { (es : Entries) (reply : Option AReply) → Rest self result.stage es reply → AtData self.limit path body start read reply es }
+        ensures falls { left_of self result.stage ≤ 3 * self.limit + 10 }
+    {
+        match make_put(start, read, path, body) {
+            Ok((put, call)) => Ahead {
+                stage: Stage::Data(put),
+                call: Some(call),
+            },
+            Err(_) => Ahead::refused(Refusal::NoMemory),
+        }
     }
 }
 
 impl Plan {
-    fn fed_start(self, start: Start, answer: Answer) -> Ahead
+    pub fn fed_start(self, start: Start, answer: Answer) -> Ahead
         requires { IsOfKind call.Now answer }
         ensures ready { result.call ≡ call_of result.stage }
         ensures follows { Follows self (Stage.Start start) call.Now answer result.stage }
         ensures falls { left_of self result.stage < left_of self (Stage.Start start) }
     {
         match answer {
-            Answer::Time(now) => {
-                Ahead::or_no_memory(Ahead::listing(self.alloc, start.statement, now))
-            }
+            Answer::Time(now) => self.lists(start.statement, now),
             _ => Ahead::faulted(CallKind::Now, start.nameless),
         }
     }
@@ -197,7 +273,7 @@ impl Plan {
         }
     }
 
-    fn fed_files(self, mut files: Files, answer: Answer) -> Ahead
+    pub fn fed_files(self, mut files: Files, answer: Answer) -> Ahead
         requires { IsSomeAnd (first_get files.left.items) (λ call. IsOfKind call answer) }
         ensures ready { result.call ≡ call_of result.stage }
         ensures follows { IfSome (first_get files.left.items) (λ call. Follows self (Stage.Files files) call answer result.stage) }
@@ -259,7 +335,7 @@ impl Plan {
         ensures falls { left_of self result.stage ≤ 3 * self.limit + 10 }
     {
         match data_file(self.alloc, &self, start, &rows) {
-            Ok((path, body)) => Ahead::or_no_memory(Ahead::data(start, read, path, body)),
+            Ok((path, body)) => self.puts(start, read, path, body),
             Err(_) => Ahead::refused(Refusal::NoMemory),
         }
     }
@@ -304,18 +380,17 @@ impl Plan {
         if load.left == 0 {
             self.loaded(load.statement, load.start, load.read, load.state)
         } else {
-            Ahead::or_no_memory(Ahead::loading(
-                self.alloc,
+            self.gets(
                 load.statement,
                 load.start,
                 load.at + 1,
                 load.left - 1,
                 load.state,
-            ))
+            )
         }
     }
 
-    fn fed_load(self, mut load: Loading, answer: Answer) -> Ahead
+    pub fn fed_load(self, mut load: Loading, answer: Answer) -> Ahead
         requires { IsOfKind (call.Get (commit_text load.at)) answer }
         ensures ready { result.call ≡ call_of result.stage }
         ensures follows { Follows self (Stage.Loading load) (call.Get (commit_text load.at)) answer result.stage }
@@ -334,6 +409,35 @@ impl Plan {
             }
             Answer::Missing => Ahead::refused(Refusal::LogGone { name: load.name }),
             _ => Ahead::faulted(CallKind::Get, load.name),
+        }
+    }
+}
+
+impl Plan {
+    /// The newest version is loaded, if the commits that are needed are listed.
+    pub fn loads(
+        self,
+        statement: Statement,
+        start: u64,
+        listing: &[Listed],
+        newest: Option<u64>,
+    ) -> Ahead
+        ensures ready { result.call ≡ call_of result.stage }
+        ensures follows { (es : Entries) (reply : Option AReply) → Rest self result.stage es reply → Loads self.tag self.limit None statement start listing.now reply newest es }
+        ensures falls { left_of self result.stage ≤ 3 * self.limit + 2097198 }
+    {
+        let Some(read) = newest else {
+            return Ahead::refused(Refusal::NoTable);
+        };
+        if read >= VERSION_LIMIT {
+            return Ahead::refused(Refusal::Unsupported {
+                feature: Feature::Versions,
+            });
+        }
+        match missing_version(self.alloc, listing, 0, read as usize + 1) {
+            Ok(None) => self.gets(statement, start, 0, read, State::new(self.alloc)),
+            Ok(Some(version)) => Ahead::or_no_memory(Ahead::log_gone(self.alloc, version)),
+            Err(_) => Ahead::refused(Refusal::NoMemory),
         }
     }
 }

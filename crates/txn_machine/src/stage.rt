@@ -1,17 +1,15 @@
 // Where a statement stands, with its next call made ready.
-ghost use Rattle.std.specs.Prelude.{◌≡◌, ◌+◌, ◌*◌, ◌<◌, ◌≤◌, ◌^◌, suc, length, IfOk};
+ghost use Rattle.std.specs.Prelude.{◌≡◌, ◌+◌, ◌<◌, ◌≤◌, ◌^◌, []};
 ghost use Rattle.table_rules.specs.Names.{log_prefix, commit_text};
-ghost use Rattle.txn_machine.specs.Machine.{ahead_of, or_no_memory};
 
 use crate::CommitJudge;
 use committer::Attempts;
 use edge_api::{Body, Call, Name, Tag};
-use op_types::{Refusal, Reply, Statement};
+use op_types::{Reply, Statement};
 use row_base::ScannedFile;
 use snapshot_replay::State;
-use std::alloc::{AllocError, Global};
+use std::alloc::Global;
 use std::collections::VecDeque;
-use table_rules::{commit_name, log_prefix};
 
 /// What a statement is told: its tag, and how many attempts it may make.
 #[derive(Clone, Copy, Drop)]

@@ -1,7 +1,7 @@
 // Commits and data files that were got.
 ghost use Rattle.std.specs.Prelude.{◌≡◌, ◌≤◌, suc, length, OnErr};
 ghost use Rattle.txn_machine.specs.Texts.{read_commit, commit_fault, read_file, file_fault};
-ghost use Rattle.txn_machine.specs.Reading.{Applies, ReadsFile};
+ghost use Rattle.txn_machine.specs.Reading.{Applies, ReadsFile, unread_by};
 
 use edge_api::Body;
 use line_texts::{read_add, read_columns, read_rows, TextFault};
@@ -17,7 +17,9 @@ pub enum Unread {
     NoMemory,
 }
 
-fn unread(fault: TextFault) -> Unread {
+fn fault_of(fault: TextFault) -> Unread
+    ensures { result ≡ unread_by fault }
+{
     match fault {
         TextFault::Line(line) => Unread::Bad(ObjectFault::Line {
             line,
@@ -43,7 +45,7 @@ pub fn apply_commit(
                 state.set_columns(columns);
                 Ok(())
             }
-            Err(fault) => Err(unread(fault)),
+            Err(fault) => Err(fault_of(fault)),
         }
     } else {
         match read_add(alloc, text.as_bytes()) {
@@ -51,7 +53,7 @@ pub fn apply_commit(
                 Ok(()) => Ok(()),
                 Err(_) => Err(Unread::NoMemory),
             },
-            Err(fault) => Err(unread(fault)),
+            Err(fault) => Err(fault_of(fault)),
         }
     }
 }
@@ -62,6 +64,6 @@ pub fn rows_of_file(alloc: Global, text: &Body) -> Result<Rows, Unread>
 {
     match read_rows(alloc, text.as_bytes()) {
         Ok(rows) => Ok(rows),
-        Err(fault) => Err(unread(fault)),
+        Err(fault) => Err(fault_of(fault)),
     }
 }
