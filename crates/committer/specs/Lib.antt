@@ -1,0 +1,4 @@
+pub mod Names
+pub mod Judging
+pub mod Attempts
+pub mod Machine
