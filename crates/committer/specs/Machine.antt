@@ -1,6 +1,5 @@
--- Where the attempts stand, by what the entries still to come have to be.
+-- Where the attempts stand: the next call, what the entries still to come have to be, and how they end.
 use Rattle.std.specs.Prelude.{◌≡◌, ℕ, suc, ◌+◌, ◌*◌, List, [], ◌∷◌, ◌++◌, Option, Some, None, Bool, true, false, Result, Ok, Err}
-use Rattle.std.specs.declared.alloc.AllocError.{AllocError}
 use Rattle.edge_api.specs.declared.call.Call.{Call}
 use Rattle.edge_api.specs.declared.call.Call.TheVariants.{Get, PutNew, Put, List as ListNames, Delete, Now, Wait}
 use Rattle.edge_api.specs.declared.actor.Fed.{Fed}
@@ -9,16 +8,14 @@ use Rattle.edge_api.specs.declared.call.Tag.{Tag}
 use Rattle.edge_api.specs.declared.call.Answer.{Answer}
 use Rattle.call_phases.specs.Phases.{Entries}
 use Rattle.call_phases.specs.Ending.{Ending}
-use Rattle.committer.specs.Attempts.{Terms, InTime, Judged, AtWinner, AtReadBack, AtCommitPut, Lost, Won, IsOpenEnd, HasFailed, HasLanded, AttemptsEnd}
+use Rattle.committer.specs.Attempts.{Terms, AtWinner, AtReadBack, AtCommitPut, Lost, Won, IsOpenEnd, HasFailed, HasLanded, AttemptsEnd}
 use Rattle.committer.specs.declared.judge.BodyFault.{BodyFault}
 use Rattle.committer.specs.declared.judge.Verdict.{Verdict}
 use Rattle.committer.specs.declared.fault.AttemptFault.{AttemptFault}
-use Rattle.committer.specs.declared.fault.AttemptFault.TheVariants as fault
 use Rattle.committer.specs.declared.fault.Landed.{Landed}
 use Rattle.committer.specs.declared.progress.Progress.{Progress}
-use Rattle.committer.specs.declared.attempts.Stage.{Stage}
-use Rattle.committer.specs.declared.attempts.Stage.TheVariants as stage
-use Rattle.committer.specs.declared.attempts.Ahead.{Ahead}
+use Rattle.committer.specs.declared.stage.Stage.{Stage}
+use Rattle.committer.specs.declared.stage.Stage.TheVariants as stage
 use Rattle.committer.specs.declared.attempts.Attempts.{Attempts}
 use Rattle.committer.specs.declared.attempts.Attempted.{Attempted}
 
@@ -27,10 +24,11 @@ abbrev pub first_after : Option ℕ → ℕ
 first_after None = 0
 first_after (Some read) = read + 1
 
+-- what the attempts were told
 abbrev pub terms_of : Progress → Terms
 terms_of p = record { start = p.start; retention = p.retention; first = p.first }
 
--- the next call
+-- the call of a stage
 abbrev pub call_at : {C : Type 0} → Stage C → Option Call
 call_at (stage.Clock r) = Some Now
 call_at (stage.Put p) = Some (PutNew p.commit.name p.text)
@@ -39,15 +37,7 @@ call_at (stage.Winner c) = Some (Get c.name)
 call_at (stage.Landed version now) = None
 call_at (stage.Failed f) = None
 
--- a stage with its call made ready
-abbrev pub ahead_of : {C : Type 0} → Stage C → Ahead C
-ahead_of s = record { stage = s; call = call_at s }
-
--- what was made, or the end for want of memory
-abbrev pub or_no_memory : {C : Type 0} → Result (Ahead C) AllocError → Ahead C
-or_no_memory (Ok ahead) = ahead
-or_no_memory (Err e) = ahead_of (stage.Failed fault.NoMemory)
-
+-- the next call
 abbrev pub call_of : {J C : Type 0} → Attempts J C → Option Call
 call_of a = call_at a.stage
 
@@ -77,16 +67,7 @@ abbrev pub is_put : Option Call → Bool
 is_put (Some call) = is_put_new call
 is_put None = false
 
--- the result of an ended stage, by the number of puts and the commits that won
-abbrev pub result_of : {C : Type 0} → Stage C → ℕ → List (List ℕ) → Result Landed (AttemptFault C)
-result_of (stage.Landed version now) attempts winners = Ok (record { version = version; attempts = attempts; now = now; winners = winners })
-result_of (stage.Failed f) attempts winners = Err f
-result_of (stage.Clock r) attempts winners = Err fault.NoMemory
-result_of (stage.Put put) attempts winners = Err fault.NoMemory
-result_of (stage.ReadBack put) attempts winners = Err fault.NoMemory
-result_of (stage.Winner c) attempts winners = Err fault.NoMemory
-
--- how many answers may come: three for each attempt
+-- how many answers may come: three for each attempt, and none where nothing is called any more
 abbrev pub left_at : {C : Type 0} → Progress → Stage C → ℕ
 left_at p (stage.Clock r) = 3 * p.left + 3
 left_at p (stage.Put put) = 3 * p.left + 2
@@ -98,15 +79,16 @@ left_at p (stage.Failed f) = 0
 abbrev pub left_of : {J C : Type 0} → Attempts J C → ℕ
 left_of a = left_at a.progress a.stage
 
+-- the attempt landed
+abbrev pub EndLanded : {J C : Type 0} → Progress → List (List ℕ) → ℕ → ℕ → Ending (Lost J C) (Won J) → J → Entries → Type 0
+EndLanded p winners version now o j es = HasLanded o j (record { version = version; attempts = suc p.lost; now = now; winners = winners }) es
+
 module _ {J C : Type 0} (bodies : J → ℕ → Result (List ℕ) BodyFault → J → Type 0) (judges : J → List ℕ → Verdict C → J → Type 0) where
   -- the attempts that may follow one that was lost to this winner
   abbrev pub EndAfter : Progress → List (List ℕ) → Ending (Lost J C) (Won J) → List ℕ → J → Entries → Type 0
   EndAfter p winners o winner j es = AttemptsEnd bodies judges (terms_of p) p.left (suc p.lost) (winners ++ winner ∷ []) j es o
 
-  -- the attempt landed
-  abbrev pub EndLanded : Progress → List (List ℕ) → ℕ → ℕ → Ending (Lost J C) (Won J) → J → Entries → Type 0
-  EndLanded p winners version now o j es = HasLanded o j (record { version = version; attempts = suc p.lost; now = now; winners = winners }) es
-
+  -- by the stage
   abbrev pub RestAt : Progress → List (List ℕ) → J → Stage C → Entries → Ending (Lost J C) (Won J) → Type 0
   RestAt p winners j (stage.Clock r) es o = AttemptsEnd bodies judges (terms_of p) (suc p.left) p.lost winners j es o
   RestAt p winners j (stage.Put put) es o =
@@ -119,31 +101,11 @@ module _ {J C : Type 0} (bodies : J → ℕ → Result (List ℕ) BodyFault → 
   RestAt p winners j (stage.Landed version now) es o = EndLanded p winners version now o j es
   RestAt p winners j (stage.Failed f) es o = HasFailed o j f es
 
-  -- what the entries still to come have to be, and how they end
+  -- what the entries still to come have to be, and how they end, at a stage of its own
   abbrev pub RestBy : Attempts J C → Stage C → Entries → Ending (Lost J C) (Won J) → Type 0
   RestBy a s es o = RestAt a.progress a.winners.items a.judge s es o
 
-  -- an attempt comes
-  abbrev pub ClockBy : Attempts J C → Entries → Ending (Lost J C) (Won J) → Type 0
-  ClockBy a es o = AttemptsEnd bodies judges (terms_of a.progress) (suc a.progress.left) a.progress.lost a.winners.items a.judge es o
-
-  -- the clock was read
-  abbrev pub InTimeBy : Attempts J C → ℕ → Entries → Ending (Lost J C) (Won J) → Type 0
-  InTimeBy a now es o =
-      InTime bodies judges (terms_of a.progress) (IsOpenEnd o) (HasFailed o) (HasLanded o) (a.progress.first + a.progress.lost) now a.judge
-      (λ new rest. EndLanded a.progress a.winners.items (a.progress.first + a.progress.lost) now o new rest) (EndAfter a.progress a.winners.items o) es
-
-  -- the commit is put
-  abbrev pub PutBy : Attempts J C → ℕ → List ℕ → Entries → Ending (Lost J C) (Won J) → Type 0
-  PutBy a now text es o =
-      AtCommitPut bodies judges (terms_of a.progress) (IsOpenEnd o) (HasFailed o) (HasLanded o) (a.progress.first + a.progress.lost) a.judge text
-      (λ rest. EndLanded a.progress a.winners.items (a.progress.first + a.progress.lost) now o a.judge rest) (EndAfter a.progress a.winners.items o) es
-
-  -- a winner is judged
-  abbrev pub JudgedBy : Attempts J C → ℕ → List ℕ → Entries → Ending (Lost J C) (Won J) → Type 0
-  JudgedBy a version winner es o =
-      Judged bodies judges (terms_of a.progress) (IsOpenEnd o) (HasFailed o) (HasLanded o) version a.judge winner (EndAfter a.progress a.winners.items o winner) es
-
+  -- what the entries still to come have to be, and how they end
   abbrev pub RestOf : Attempts J C → Entries → Ending (Lost J C) (Won J) → Type 0
   RestOf a es o = RestBy a a.stage es o
 
@@ -151,12 +113,12 @@ module _ {J C : Type 0} (bodies : J → ℕ → Result (List ℕ) BodyFault → 
   abbrev pub Leads : Attempts J C → Stage C → Call → Answer → Attempts J C → Stage C → Type 0
   Leads old s call answer new t = (tag : Tag) (es : Entries) (o : Ending (Lost J C) (Won J)) → RestBy new t es o → RestBy old s (record { tag = tag; call = call; answer = answer } ∷ es) o
 
-  -- an answer, or want of memory, leads from one state to another
+  -- from before to after an answer, or want of memory, after which nothing is called
   abbrev pub Goes : Attempts J C → Call → Fed → Attempts J C → Type 0
   Goes old call (fed.Answer answer) new = Leads old old.stage call answer new new.stage
   Goes old call fed.NoMemory new = (es : Entries) (o : Ending (Lost J C) (Won J)) → RestOf new es o → (es ≡ []) × RestOf old es o
 
--- a phase that handed this back ended so
+-- the attempts that handed this back ended so
 abbrev pub ResultEnds : {J C : Type 0} → J → Result Landed (AttemptFault C) → Entries → Ending (Lost J C) (Won J) → Type 0
 ResultEnds j (Ok l) es o = HasLanded o j l es
 ResultEnds j (Err f) es o = HasFailed o j f es

@@ -5,6 +5,8 @@ mod attempts;
 mod fault;
 mod judge;
 mod progress;
+mod stage;
+mod steps;
 
 pub use attempts::{Attempted, Attempts};
 pub use fault::{AttemptFault, Bodies, Landed};

@@ -1,4 +1,4 @@
-use Rattle.committer.proofs.Steps.{leads_at}
+use Rattle.committer.proofs.Same.{leads_at}
 use Rattle.committer.proofs.attempts.Attempts.after.Goals as goal
 
 pub returns-in-Clock-clause-leads : goal.returns-in-Clock-clause-leads

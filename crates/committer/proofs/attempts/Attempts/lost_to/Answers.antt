@@ -1,6 +1,6 @@
 use Rattle.std.proofs.Common.{arith, ◌≡◌, suc, ◌+◌, ◌-◌}
 use Rattle.committer.specs.Machine.{terms_of}
-use Rattle.committer.proofs.Steps.{same_attempts}
+use Rattle.committer.proofs.Same.{same_attempts}
 use Rattle.committer.proofs.attempts.Attempts.lost_to.Goals as goal
 
 pub returns-clause-leads : goal.returns-clause-leads

@@ -1,7 +1,7 @@
 use Rattle.std.proofs.Common.{arith, rules, ◌≡◌, ℕ, suc, ◌-◌, [], refl, ap}
 use Rattle.committer.specs.Attempts.{Terms}
 use Rattle.committer.specs.Machine.{first_after}
-use Rattle.committer.proofs.Steps.{same_attempts, same_terms}
+use Rattle.committer.proofs.Same.{same_attempts, same_terms}
 use Rattle.committer.proofs.attempts.Attempts.new.Goals as goal
 
 abbrev at_first : ℕ → ℕ → ℕ → Terms

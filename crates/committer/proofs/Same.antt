@@ -5,7 +5,7 @@ use Rattle.call_phases.specs.Phases.{Entries}
 use Rattle.call_phases.specs.Ending.{Ending}
 use Rattle.committer.specs.declared.judge.BodyFault.{BodyFault}
 use Rattle.committer.specs.declared.judge.Verdict.{Verdict}
-use Rattle.committer.specs.declared.attempts.Stage.{Stage}
+use Rattle.committer.specs.declared.stage.Stage.{Stage}
 use Rattle.committer.specs.declared.attempts.Attempts.{Attempts}
 use Rattle.committer.specs.Machine.{call_at, Leads}
 use Rattle.committer.specs.Attempts.{Terms, Lost, Won, AttemptsEnd}
