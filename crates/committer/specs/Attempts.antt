@@ -1,0 +1,101 @@
+-- The attempts of a commit: optimistic concurrency on a log with put-if-absent. Each attempt is at the version after the one before.
+use Rattle.std.specs.Prelude.{◌≡◌, ◌⊎◌, ℕ, zero, suc, ◌+◌, ◌*◌, ◌-◌, nat_lt, Bool, List, [], ◌∷◌, ◌++◌, Result, Ok, Err, MatchBool}
+use Rattle.std.specs.Str.{bytes_eq}
+use Rattle.table_rules.specs.Names.{commit_text}
+use Rattle.call_phases.specs.Phases.{Entries, AtNow, AtGet, AtPutNew}
+use Rattle.call_phases.specs.Ending.{Ending, Open, Failed, Ended}
+use Rattle.committer.specs.Names.{called_now, called_put, called_get}
+use Rattle.committer.specs.declared.judge.BodyFault.{BodyFault}
+use Rattle.committer.specs.declared.judge.BodyFault.TheVariants as body_fault
+use Rattle.committer.specs.declared.judge.Verdict.{Verdict}
+use Rattle.committer.specs.declared.judge.Verdict.TheVariants as verdict
+use Rattle.committer.specs.declared.fault.AttemptFault.{AttemptFault}
+use Rattle.committer.specs.declared.fault.AttemptFault.TheVariants as fault
+use Rattle.committer.specs.declared.fault.Landed.{Landed}
+
+-- what attempts are told: the start of the statement, the table's retention, both in milliseconds, and the version of the first attempt
+pub record Terms : Type 0 where
+  pub start : ℕ
+  pub retention : ℕ
+  pub first : ℕ
+
+-- whether twice the time since the start exceeds the retention
+abbrev pub outlasts : Terms → ℕ → Bool
+outlasts terms now = nat_lt terms.retention (2 * (now - terms.start))
+
+-- by a judge's text: want of memory, too many bytes, or the text
+abbrev pub OnBody : Result (List ℕ) BodyFault → Type 0 → (ℕ → Type 0) → (List ℕ → Type 0) → Type 0
+OnBody (Ok text) memory large made = made text
+OnBody (Err body_fault.NoMemory) memory large made = memory
+OnBody (Err (body_fault.TooLarge bytes)) memory large made = large bytes
+
+-- by a judge's verdict on a winner: clear, or a clash
+abbrev pub OnVerdict : {C : Type 0} → Verdict C → Type 0 → (C → Type 0) → Type 0
+OnVerdict (verdict.Clear winner) clear clash = clear
+OnVerdict (verdict.Clash c) clear clash = clash c
+
+-- J: what a judge knows, and C: its clashes. `bodies old now text new` and `judges old winner verdict new` are what its calls meet
+module _ {J C : Type 0} (bodies : J → ℕ → Result (List ℕ) BodyFault → J → Type 0) (judges : J → List ℕ → Verdict C → J → Type 0) (terms : Terms)
+    (open_end : J → Type 0) (fails : J → AttemptFault C → Entries → Type 0) (lands : J → Landed → Entries → Type 0) where
+  -- a winner is judged: without a clash the next attempt may come
+  abbrev pub Judged : ℕ → J → List ℕ → (J → Entries → Type 0) → Entries → Type 0
+  Judged version j winner again es = (v : Verdict C) × (new : J) × judges j winner v new × OnVerdict v (again new es) (λ clash. fails new (fault.Conflict version clash) es)
+
+  -- the name was taken: the winner is got and judged
+  abbrev pub AtWinner : ℕ → J → (List ℕ → J → Entries → Type 0) → Entries → Type 0
+  AtWinner version j again es =
+      AtGet (open_end j) (commit_text version) (λ rest. fails j (fault.Fault (called_get version)) rest) (λ rest. fails j (fault.LogGone (commit_text version)) rest)
+      (λ winner rest. Judged version j winner (again winner) rest) es
+
+  -- the reply was lost: the commit is read back. The same bytes are the statement's own commit, other bytes are a winner
+  abbrev pub AtReadBack : ℕ → J → List ℕ → (Entries → Type 0) → (List ℕ → J → Entries → Type 0) → Entries → Type 0
+  AtReadBack version j text landed again es =
+      AtGet (open_end j) (commit_text version) (λ rest. fails j (fault.OutcomeUnknown version) rest) (λ rest. fails j (fault.Fault (called_put version)) rest)
+      (λ found rest. MatchBool (bytes_eq found text) (landed rest) (Judged version j found (again found) rest)) es
+
+  -- the put of the commit
+  abbrev pub AtCommitPut : ℕ → J → List ℕ → (Entries → Type 0) → (List ℕ → J → Entries → Type 0) → Entries → Type 0
+  AtCommitPut version j text landed again es =
+      AtPutNew (open_end j) (commit_text version) text (λ rest. AtReadBack version j text landed again rest) landed (λ rest. AtWinner version j again rest) es
+
+  -- the judge makes the text for this reading of the clock, and it is put
+  abbrev pub Puts : ℕ → ℕ → J → (J → Entries → Type 0) → (List ℕ → J → Entries → Type 0) → Entries → Type 0
+  Puts version now j landed again es =
+      (made : Result (List ℕ) BodyFault) × (new : J) × bodies j now made new
+      × OnBody made (fails new fault.NoMemory es) (λ bytes. fails new (fault.TooLarge bytes) es) (λ text. AtCommitPut version new text (landed new) again es)
+
+  -- after a reading of the clock: an attempt that comes too late isn't made
+  abbrev pub InTime : ℕ → ℕ → J → (J → Entries → Type 0) → (List ℕ → J → Entries → Type 0) → Entries → Type 0
+  InTime version now j landed again es = MatchBool (outlasts terms now) (fails j (fault.Outlasted terms.start now) es) (Puts version now j landed again es)
+
+  -- so many attempts at most, where so many were lost already to these winners
+  abbrev pub AtAttempt : ℕ → ℕ → List (List ℕ) → J → Entries → Type 0
+  AtAttempt zero lost winners j es = fails j (fault.TooManyAttempts lost) es
+  AtAttempt (suc left) lost winners j es =
+      AtNow (open_end j) (λ rest. fails j (fault.Fault called_now) rest)
+      (λ now rest. InTime (terms.first + lost) now j
+      (λ new. lands new (record { version = terms.first + lost; attempts = suc lost; now = now; winners = winners }))
+      (λ winner new. AtAttempt left (suc lost) (winners ++ winner ∷ []) new) rest) es
+
+-- what a failed and what a landed phase hands back
+pub record Lost (J C : Type 0) : Type 0 where
+  pub judge : J
+  pub fault : AttemptFault C
+
+pub record Won (J : Type 0) : Type 0 where
+  pub judge : J
+  pub landed : Landed
+
+-- the attempts of these entries ended so. They are open, or memory was wanting, where the entries end before a call
+abbrev pub IsOpenEnd : {J C : Type 0} → Ending (Lost J C) (Won J) → J → Type 0
+IsOpenEnd o j = (o ≡ Open) ⊎ (o ≡ Failed (record { judge = j; fault = fault.NoMemory }))
+
+abbrev pub HasFailed : {J C : Type 0} → Ending (Lost J C) (Won J) → J → AttemptFault C → Entries → Type 0
+HasFailed o j f es = (es ≡ []) × (o ≡ Failed (record { judge = j; fault = f }))
+
+abbrev pub HasLanded : {J C : Type 0} → Ending (Lost J C) (Won J) → J → Landed → Entries → Type 0
+HasLanded o j l es = o ≡ Ended (record { judge = j; landed = l }) es
+
+module _ {J C : Type 0} (bodies : J → ℕ → Result (List ℕ) BodyFault → J → Type 0) (judges : J → List ℕ → Verdict C → J → Type 0) (terms : Terms) where
+  abbrev pub AttemptsEnd : ℕ → ℕ → List (List ℕ) → J → Entries → Ending (Lost J C) (Won J) → Type 0
+  AttemptsEnd left lost winners j es o = AtAttempt bodies judges terms (IsOpenEnd o) (HasFailed o) (HasLanded o) left lost winners j es

@@ -1,0 +1,56 @@
+-- The steps from one stage to the next.
+use Rattle.std.specs.Prelude.{ℕ, suc, ◌+◌, List, Result, Ok, Err}
+use Rattle.std.specs.declared.alloc.AllocError.{AllocError}
+use Rattle.call_phases.specs.Phases.{Entries}
+use Rattle.call_phases.specs.Ending.{Ending}
+use Rattle.committer.specs.Attempts.{InTime, Judged, AtCommitPut, Lost, Won, IsOpenEnd, HasFailed, HasLanded, AttemptsEnd}
+use Rattle.committer.specs.Machine.{terms_of, call_at, EndAfter, EndLanded}
+use Rattle.committer.specs.declared.judge.BodyFault.{BodyFault}
+use Rattle.committer.specs.declared.judge.Verdict.{Verdict}
+use Rattle.committer.specs.declared.fault.AttemptFault.{AttemptFault}
+use Rattle.committer.specs.declared.fault.AttemptFault.TheVariants as fault
+use Rattle.committer.specs.declared.fault.Landed.{Landed}
+use Rattle.committer.specs.declared.stage.Stage.{Stage}
+use Rattle.committer.specs.declared.stage.Stage.TheVariants as stage
+use Rattle.committer.specs.declared.stage.Ahead.{Ahead}
+use Rattle.committer.specs.declared.attempts.Attempts.{Attempts}
+
+-- a stage with its call made ready
+abbrev pub ahead_of : {C : Type 0} → Stage C → Ahead C
+ahead_of s = record { stage = s; call = call_at s }
+
+-- what was made, or the end for want of memory
+abbrev pub or_no_memory : {C : Type 0} → Result (Ahead C) AllocError → Ahead C
+or_no_memory (Ok ahead) = ahead
+or_no_memory (Err e) = ahead_of (stage.Failed fault.NoMemory)
+
+-- the result of an ended stage, by the number of puts and the commits that won
+abbrev pub result_of : {C : Type 0} → Stage C → ℕ → List (List ℕ) → Result Landed (AttemptFault C)
+result_of (stage.Landed version now) attempts winners = Ok (record { version = version; attempts = attempts; now = now; winners = winners })
+result_of (stage.Failed f) attempts winners = Err f
+result_of (stage.Clock r) attempts winners = Err fault.NoMemory
+result_of (stage.Put put) attempts winners = Err fault.NoMemory
+result_of (stage.ReadBack put) attempts winners = Err fault.NoMemory
+result_of (stage.Winner c) attempts winners = Err fault.NoMemory
+
+module _ {J C : Type 0} (bodies : J → ℕ → Result (List ℕ) BodyFault → J → Type 0) (judges : J → List ℕ → Verdict C → J → Type 0) where
+  -- an attempt comes
+  abbrev pub ClockBy : Attempts J C → Entries → Ending (Lost J C) (Won J) → Type 0
+  ClockBy a es o = AttemptsEnd bodies judges (terms_of a.progress) (suc a.progress.left) a.progress.lost a.winners.items a.judge es o
+
+  -- the clock was read
+  abbrev pub InTimeBy : Attempts J C → ℕ → Entries → Ending (Lost J C) (Won J) → Type 0
+  InTimeBy a now es o =
+      InTime bodies judges (terms_of a.progress) (IsOpenEnd o) (HasFailed o) (HasLanded o) (a.progress.first + a.progress.lost) now a.judge
+      (λ new rest. EndLanded a.progress a.winners.items (a.progress.first + a.progress.lost) now o new rest) (EndAfter bodies judges a.progress a.winners.items o) es
+
+  -- the commit is put
+  abbrev pub PutBy : Attempts J C → ℕ → List ℕ → Entries → Ending (Lost J C) (Won J) → Type 0
+  PutBy a now text es o =
+      AtCommitPut bodies judges (terms_of a.progress) (IsOpenEnd o) (HasFailed o) (HasLanded o) (a.progress.first + a.progress.lost) a.judge text
+      (λ rest. EndLanded a.progress a.winners.items (a.progress.first + a.progress.lost) now o a.judge rest) (EndAfter bodies judges a.progress a.winners.items o) es
+
+  -- a winner is judged
+  abbrev pub JudgedBy : Attempts J C → ℕ → List ℕ → Entries → Ending (Lost J C) (Won J) → Type 0
+  JudgedBy a version winner es o =
+      Judged bodies judges (terms_of a.progress) (IsOpenEnd o) (HasFailed o) (HasLanded o) version a.judge winner (EndAfter bodies judges a.progress a.winners.items o winner) es

@@ -1,0 +1,84 @@
+// How far the attempts of a commit have come.
+ghost use Rattle.std.specs.Prelude.{◌≡◌, ◌+◌, ◌-◌, ◌<◌, ◌≤◌, ◌^◌, IfOk};
+ghost use Rattle.table_rules.specs.Names.{commit_text};
+ghost use Rattle.committer.specs.Names.{called_now};
+
+use edge_api::{CallKind, Called, Name};
+use std::alloc::{AllocError, Global};
+use table_rules::commit_name;
+
+/// The statement's start, the table's retention, both in milliseconds, the version of the first attempt, how
+/// many attempts were lost, and how many may follow the one that is made.
+#[derive(Clone, Copy, Drop)]
+pub struct Progress {
+    pub start: u64,
+    pub retention: u64,
+    pub first: u64,
+    pub lost: u32,
+    pub left: u32,
+    pub ghost versions: { first ≤ 2 ^ 20 },
+    pub ghost limit: { lost + left < 1000000 },
+}
+
+impl Progress {
+    ghost use Rattle.committer.specs.Attempts.{outlasts};
+    ghost use Rattle.committer.specs.Machine.{terms_of};
+
+    /// The version of the attempt that is made.
+    pub fn version(&self) -> u64
+        ensures { result ≡ self.now.first + self.now.lost }
+    {
+        self.first + self.lost as u64
+    }
+
+    /// Whether twice the time since the start exceeds the retention.
+    pub fn outlasts(&self, now: u64) -> bool
+        requires { now ≤ 2 ^ 61 }
+        ensures { result ≡ outlasts (terms_of self.now) now }
+    {
+        2 * now.saturating_sub(self.start) > self.retention
+    }
+}
+
+/// The commit of an attempt.
+#[derive(Drop)]
+pub struct Commit {
+    pub version: u64,
+    pub name: Name,
+    pub ghost named: { name ≡ commit_text version },
+}
+
+impl Commit {
+    /// The commit of this version. The error is want of memory.
+    pub fn make(alloc: Global, version: u64) -> Result<Commit, AllocError>
+        ensures { IfOk result (λ commit. commit.version ≡ version) }
+    {
+        let name = commit_name(alloc, version)?;
+        Ok(Commit { version, name })
+    }
+
+    /// A call of this kind that speaks of the commit.
+    pub fn called(self, kind: CallKind) -> Called
+        ensures { result ≡ record { kind = kind; name = self.name } }
+    {
+        let name = self.name;
+        Called { kind, name }
+    }
+}
+
+/// A reading of the clock.
+#[derive(Drop)]
+pub struct Reading {
+    pub called: Called,
+    pub ghost is: { called ≡ called_now },
+}
+
+impl Reading {
+    /// A reading of the clock. The error is want of memory.
+    pub fn make(alloc: Global) -> Result<Reading, AllocError> {
+        let name = Name::make(alloc, "")?;
+        let kind = CallKind::Now;
+        let called = Called { kind, name };
+        Ok(Reading { called })
+    }
+}
