@@ -3,7 +3,8 @@
 
 mod piece;
 mod schedule;
+#[cfg(test)]
+mod tests;
 
-
-pub use piece::{run_piece, step_actor, Till};
-pub use schedule::{run_schedule, Item, ItemForm};
+pub use piece::{Till, run_piece, step_actor};
+pub use schedule::{Item, ItemForm, run_schedule};

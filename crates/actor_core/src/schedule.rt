@@ -3,7 +3,7 @@ ghost use Rattle.std.specs.Prelude.{◌≡◌, ◌<◌, ◌≤◌, ℕ, length, 
 ghost use Rattle.edge_api.specs.Actor.{Moves};
 ghost use Rattle.actor_core.specs.Schedule.{till_of, slots_of, to_the_end, FollowsSlots, FollowsSchedule, TakesTurns, AreApart, EachOwnPart};
 
-use crate::{run_piece, Till};
+use crate::{Till, run_piece};
 use edge_api::{Actor, World};
 
 /// How far the actor of an item goes. An item of an actor that is done is passed over.

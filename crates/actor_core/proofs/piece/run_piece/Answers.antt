@@ -11,7 +11,7 @@ returns-then-not-stays-clause-runs g c =
     let on : stays c.args.till (g.A.Actor.stands c.args.actor.now) ≡ false = search rules in
     let some : 0 < g.A.Actor.left c.args.actor.now = search rules in
     piece_of (Moves g.A.Actor.goes g.A.Actor.number) g.A.Actor.stands c.args.till _ (j c.args.world.now) (j c.step_actor.new.world) (j c.run_on.new.world) c.args.actor.now c.step_actor.new.actor c.run_on.new.actor
-        (g.A.Actor.left c.args.actor.now) c.step_actor.result e.steps e.done some on c.run_on.ensures.runs
+    (g.A.Actor.left c.args.actor.now) c.step_actor.result e.steps e.done some on c.run_on.ensures.runs
 
 pub returns-then-not-stays-clause-alone : goal.returns-then-not-stays-clause-alone
 returns-then-not-stays-clause-alone g c =
