@@ -4,3 +4,4 @@ pub mod Pieces
 pub mod Orders
 pub mod Numbers
 pub mod Orderly
+pub mod JournalOrder

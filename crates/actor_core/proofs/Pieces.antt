@@ -1,5 +1,5 @@
 -- One call more.
-use Rattle.std.proofs.Common.{◌≡◌, ℕ, zero, suc, ◌<◌, ◌==◌, Bool, true, false, List, [], ◌∷◌, ◌++◌, length, get_or, set, refl, sym, ◌∙◌, ap, subst, arith, append_assoc}
+use Rattle.std.proofs.Common.{◌≡◌, ℕ, ◌<◌, Bool, true, false, List, [], ◌∷◌, ◌++◌, refl, sym, ◌∙◌, ap, subst, arith, append_assoc}
 use Rattle.std.proofs.lemmas.List.{append-nil}
 use Rattle.std.specs.Bool.{OnTrue, OnFalse}
 use Rattle.std.specs.Prelude.{Option, Some, None}
@@ -11,17 +11,21 @@ use Rattle.edge_api.specs.Actor.{Event, Made, Refused, Moves, Feeds, entries_of_
 use Rattle.actor_core.specs.Entries.{AllOfActor}
 use Rattle.actor_core.specs.Piece.{stays, stops, GoesOn, Piece, RunsOn, RunsPiece, RunsAlone, Steps}
 
+-- a journal, where the store tells it
 abbrev pub Told : Type 0
 Told = Option (List JournalEntry)
 
+-- a journal that is as before has grown by nothing
 pub grows_nothing : (before after : Told) → after ≡ before → Grows before [] after
 grows_nothing None after e = e
 grows_nothing (Some j) after e = e ∙ ap (λ (l : List JournalEntry). Some l) (sym (append-nil j))
 
+-- a journal that grows twice
 pub grows_more : (a b c : Told) (p q : List JournalEntry) → Grows a p b → Grows b q c → Grows a (p ++ q) c
 grows_more None b c p q first second = subst (λ (t : Told). Grows t q c) first second
 grows_more (Some j) b c p q first second = subst (λ (t : Told). Grows t q c) first second ∙ ap (λ (l : List JournalEntry). Some l) (append_assoc j p q)
 
+-- the entries of events, one list after another
 pub entries-append : (a b : List Event) → entries_of_events (a ++ b) ≡ entries_of_events a ++ entries_of_events b
 entries-append [] b = refl
 entries-append (Made e ∷ a) b = ap (λ (l : List JournalEntry). e ∷ l) (entries-append a b)
@@ -33,6 +37,7 @@ Led {A} goes stands till before now old mid =
     (part : List Event) × Grows before (entries_of_events part) now × ((es : List Event) (b : A) → GoesOn goes stands till mid es b → GoesOn goes stands till old (part ++ es) b)
 
 module _ {A : Type 0} (goes : A → Event → A → Type 0) (stands : A → Stage) (till : Till) where
+  -- one call more, where the actor has not stopped
   pub led_more : (D : Type 0) (j0 j1 j2 : Told) (old mid new : A) (left : ℕ) (r : Bool) → OnTrue r (Steps goes j1 j2 mid new) → OnFalse r (D × (j2 ≡ j1) × (left ≡ 0)) → 0 < left
       → stops till (stands mid) ≡ false → Led goes stands till j0 j1 old mid → Led goes stands till j0 j2 old new
   led_more D j0 j1 j2 old mid new left false step stay lt on led = absurd (omega (arith, stay.2))
@@ -45,9 +50,11 @@ module _ {A : Type 0} (goes : A → Event → A → Type 0) (stands : A → Stag
         λ es b h. subst (λ (l : List Event). GoesOn goes stands till old l b) (sym (append_assoc led.0 one es)) (led.2 (e ∷ es) b (on, new, step.2, h)),
       )
 
+  -- where the actor stops
   pub led_end : (j0 j1 : Told) (old mid : A) → stops till (stands mid) ≡ true → Led goes stands till j0 j1 old mid → RunsOn goes stands till j0 j1 old mid
   led_end j0 j1 old mid is led = (led.0, led.1, subst (λ (l : List Event). GoesOn goes stands till old l mid) (append-nil led.0) (led.2 [] mid (refl, is)))
 
+  -- before the first call
   pub led_begin : (j : Told) (old : A) → Led goes stands till j j old old
   led_begin j old = ([], grows_nothing j j refl, λ es b h. h)
 
@@ -64,9 +71,11 @@ module _ {A : Type 0} (goes : A → Event → A → Type 0) (stands : A → Stag
         (on, mid, step.2, run.2),
       )
 
+  -- where the actor stays, nothing happens
   pub piece_none : (j : Told) (old : A) → stays till (stands old) ≡ true → RunsPiece goes stands till j j old old
   piece_none j old is = ([], grows_nothing j j refl, (refl, is))
 
+-- what holds of a test that fails
 pub on_false : (r : Bool) (P : Type 0) → r ≡ false → OnFalse r P → P
 on_false true P is h = cc
 on_false false P is h = h
@@ -88,6 +97,7 @@ module _ {A : Type 0} (goes : A → Event → A → Type 0) (number : A → ℕ)
   all_of_actor a b (Made e ∷ es) fed = (fed.1.by, subst (λ (n : ℕ). AllOfActor n (entries_of_events es)) fed.1.same (all_of_actor fed.0 b es fed.2))
   all_of_actor a b (Refused ∷ es) fed = subst (λ (n : ℕ). AllOfActor n (entries_of_events es)) fed.1.same (all_of_actor fed.0 b es fed.2)
 
+  -- the entries of a piece are those of the actor
   pub piece_alone : (stands : A → Stage) (till : Till) (j0 j1 : Told) (old new : A) → RunsPiece (Moves goes number) stands till j0 j1 old new → RunsAlone goes number j0 j1 old new
   piece_alone stands till j0 j1 old new run =
       let fed = piece_feeds (Moves goes number) stands till old new run.0 run.2 in (run.0, run.1, all_of_actor old new run.0 fed, fed)

@@ -35,7 +35,8 @@ stays StatementEnd stage = is_done stage
 stays CommitPut stage = is_done stage || is_at_put stage
 stays End stage = is_done stage
 
--- an actor that stands there after a call makes no further one
+-- an actor that stands there after a call makes no further one: at once; at the end of the statement; at that end or where its next call is a
+-- commit put; where it is done
 abbrev pub stops : Till → Stage → Bool
 stops OneCall stage = true
 stops StatementEnd stage = is_done stage || is_between stage

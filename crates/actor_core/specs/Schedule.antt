@@ -94,3 +94,18 @@ pub record OwnParts {A : Type 0} (goes : A → Event → A → Type 0) (number :
 
 abbrev pub EachOwnPart : {A : Type 0} → (A → Event → A → Type 0) → (A → ℕ) → Option (List JournalEntry) → Option (List JournalEntry) → List A → List A → Type 0
 EachOwnPart goes number before after old new = (part : List JournalEntry) × Grows before part after × OwnParts goes number part old new
+
+-- the numbers of the actors of entries, one by one
+abbrev pub order_of : List JournalEntry → List ℕ
+order_of [] = []
+order_of (e ∷ es) = e.tag.actor ∷ order_of es
+
+-- an item of one call for each number
+abbrev pub items_of_order : List ℕ → List Item
+items_of_order [] = []
+items_of_order (n ∷ ns) = record { actor = n; form = One } ∷ items_of_order ns
+
+-- the numbers of the entries' actors are from 1 to n
+abbrev pub AllNumbered : ℕ → List JournalEntry → Type 0
+AllNumbered n [] = Unit {0}
+AllNumbered n (e ∷ es) = (0 < e.tag.actor) × (e.tag.actor ≤ n) × AllNumbered n es

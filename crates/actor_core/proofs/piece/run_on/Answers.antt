@@ -1,6 +1,5 @@
-use Rattle.std.proofs.Common.{rules, ◌≡◌, ◌<◌, Bool, true, false, sym, ◌∙◌}
+use Rattle.std.proofs.Common.{rules, ◌≡◌, ◌<◌, true, false, sym, ◌∙◌}
 use Rattle.edge_api.specs.Actor.{Moves}
-use Rattle.actor_core.specs.Piece.{stops}
 use Rattle.actor_core.proofs.Pieces.{led_more, led_end, on_false}
 use Rattle.actor_core.proofs.piece.run_on.Goals as goal
 

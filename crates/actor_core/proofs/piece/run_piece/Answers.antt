@@ -1,4 +1,4 @@
-use Rattle.std.proofs.Common.{rules, ◌≡◌, ◌<◌, Bool, true, false, sym, ◌∙◌}
+use Rattle.std.proofs.Common.{rules, ◌≡◌, ◌<◌, false}
 use Rattle.edge_api.specs.Actor.{Moves}
 use Rattle.actor_core.specs.Piece.{stays}
 use Rattle.actor_core.proofs.Pieces.{piece_of, piece_alone}

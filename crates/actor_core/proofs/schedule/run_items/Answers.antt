@@ -1,5 +1,4 @@
-use Rattle.std.proofs.Common.{rules, ◌≡◌, ◌<◌, ◌-◌, ◌++◌, [], ◌∷◌, List, length, get_or, take, All, set, subst, sym, ap, arith, slice_index_or}
-use Rattle.std.proofs.lemmas.Grind.{common_steps}
+use Rattle.std.proofs.Common.{rules, ◌<◌, ◌-◌, [], ◌∷◌, List, length, get_or, take, set, subst, sym, ap, arith}
 use Rattle.std.proofs.lemmas.List.Elements.{All-set}
 use Rattle.edge_api.specs.Actor.{Moves}
 use Rattle.actor_core.specs.declared.schedule.ItemForm.TheVariants.{One}

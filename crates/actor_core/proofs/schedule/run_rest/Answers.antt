@@ -1,4 +1,4 @@
-use Rattle.std.proofs.Common.{rules, ◌≡◌, ◌<◌, ◌++◌, [], ◌∷◌, List, length, get_or, All, set, subst, sym, ap, arith, refl}
+use Rattle.std.proofs.Common.{◌≡◌, ◌<◌, [], ◌∷◌, List, length, get_or, set, subst, sym, ap, arith, refl}
 use Rattle.std.proofs.lemmas.List.Elements.{All-set, AllWithin-more_set}
 use Rattle.edge_api.specs.Actor.{Moves}
 use Rattle.actor_core.specs.declared.piece.Till.TheVariants.{End}

@@ -1,4 +1,4 @@
-use Rattle.std.proofs.Common.{rules, ◌≡◌, ◌++◌, List, length, subst, sym, ◌∙◌, ℕ}
+use Rattle.std.proofs.Common.{◌≡◌, ◌++◌, length, subst, ◌∙◌, ℕ}
 use Rattle.edge_api.specs.Actor.{Moves}
 use Rattle.actor_core.specs.Schedule.{slots_of, to_the_end, FollowsSlots}
 use Rattle.actor_core.proofs.Orders.{follows_more, takes_turns}
