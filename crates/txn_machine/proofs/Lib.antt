@@ -1,1 +1,4 @@
 pub mod Listings
+pub mod AttemptsEnd
+pub mod OpenEnds
+pub mod Places

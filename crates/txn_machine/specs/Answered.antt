@@ -27,7 +27,7 @@ use Rattle.committer.specs.declared.fault.Landed.{Landed}
 use Rattle.committer.specs.Attempts.{Terms, AtAttempt}
 use Rattle.txn_machine.specs.declared.judge.CommitJudge.{CommitJudge}
 use Rattle.txn_machine.specs.Judging.{Bodies, Judges}
-use Rattle.txn_machine.specs.Phases.{IsOpen, IsCutShort, Ends, Replies, called, newest, missing, AtLoad, AtFiles}
+use Rattle.txn_machine.specs.Phases.{IsOpen, IsCutShort, Ends, Cut, Replies, called, newest, missing, AtLoad, AtFiles}
 
 -- how long a commit may take, doubled, in milliseconds: one week
 abbrev pub retention : ℕ
@@ -84,6 +84,11 @@ abbrev pub load_from : Option Kept → ℕ → ℕ
 load_from None version = 0
 load_from (Some k) version = if nat_lt (version + 1) k.versions then 0 else k.versions
 
+-- how many commits are got
+abbrev pub load_count : Option Kept → ℕ → ℕ
+load_count None version = suc version
+load_count (Some k) version = if nat_lt (version + 1) k.versions then suc version else version + 1 - k.versions
+
 abbrev pub load_base : Option Kept → ℕ → Snapshot
 load_base None version = no_table
 load_base (Some k) version = if nat_lt (version + 1) k.versions then no_table else k.state
@@ -127,8 +132,8 @@ module _ (tag : Tag) (limit : ℕ) where
   Loads kept statement start l reply None es = Ends reply refusal.NoTable es
   Loads kept statement start l reply (Some v) es =
       MatchBool (nat_lt v version_limit)
-      (MatchOption (missing l (load_from kept v) (v + 1 - load_from kept v))
-      (AtLoad reply (v + 1 - load_from kept v) (load_from kept v) (load_base kept v) (AfterLoad statement start v reply) es)
+      (Cut reply es ⊎ MatchOption (missing l (load_from kept v) (load_count kept v))
+      (AtLoad reply (load_count kept v) (load_from kept v) (load_base kept v) (AfterLoad statement start v reply) es)
       (λ k. Ends reply (refusal.LogGone (commit_text k)) es))
       (Ends reply (refusal.Unsupported Versions) es)
 

@@ -5,3 +5,5 @@ pub mod Phases
 pub mod Listing
 pub mod Answered
 pub mod Machine
+pub mod Place
+pub mod Txn

@@ -75,10 +75,14 @@ call_of (stage.Done r) = None
 abbrev pub Follows : Plan → Stage → Call → Answer → Stage → Type 0
 Follows p old call answer new = (es : Entries) (reply : Option Reply) → Rest p new es reply → Rest p old (record { tag = p.tag; call = call; answer = answer } ∷ es) reply
 
+-- want of memory for the call ends the statement, which was open
+abbrev pub EndsOpen : Plan → Stage → Stage → Type 0
+EndsOpen p old new = (es : Entries) (reply : Option Reply) → Rest p new es reply → (es ≡ []) × Rest p old es reply
+
 -- an answer, or want of memory, leads from old to new
 abbrev pub FedTo : Plan → Stage → Call → Fed → Stage → Type 0
 FedTo p old call (fed.Answer answer) new = Follows p old call answer new
-FedTo p old call fed.NoMemory new = (reply : Option Reply) → Rest p new [] reply → Rest p old [] reply
+FedTo p old call fed.NoMemory new = EndsOpen p old new
 
 -- a number that falls with each answer, and is 0 exactly at the end
 abbrev pub left_of : Plan → Stage → ℕ

@@ -1,6 +1,5 @@
 -- What is made of the bytes of an object.
-use Rattle.std.specs.Prelude.{◌≡◌, List, Option, Some, None, Result, Ok, Err, MatchOption}
-use Rattle.row_base.specs.declared.row.Datum.{Datum}
+use Rattle.std.specs.Prelude.{◌≡◌, List, Option, Some, None, MatchOption}
 use Rattle.op_types.specs.declared.refusal.ObjectFault.{ObjectFault}
 use Rattle.op_types.specs.declared.refusal.ObjectFault.TheVariants.{Line}
 use Rattle.op_types.specs.declared.refusal.LogFaultKind.TheVariants.{Shape}
@@ -14,13 +13,11 @@ abbrev pub unread_by : TextFault → Unread
 unread_by (text.Line n) = unread.Bad (Line n Shape)
 unread_by text.NoMemory = unread.NoMemory
 
--- the commit that was read is applied, or the fault is that of a text that says nothing
-abbrev pub Applies : Option Commit → ObjectFault → Snapshot → Snapshot → Result (Unit {0}) Unread → Type 0
-Applies read fault old new (Ok u) = MatchOption read ⊥ (λ t. new ≡ applied old t)
-Applies read fault old new (Err (unread.Bad f)) = (read ≡ None) × (f ≡ fault)
-Applies read fault old new (Err unread.NoMemory) = Unit {0}
+-- the commit that was read is applied
+abbrev pub Extends : Option Commit → Snapshot → Snapshot → Type 0
+Extends read old new = MatchOption read ⊥ (λ t. new ≡ applied old t)
 
-abbrev pub ReadsFile : Option (List (List Datum)) → ObjectFault → Result (List (List Datum)) Unread → Type 0
-ReadsFile read fault (Ok rows) = read ≡ Some rows
-ReadsFile read fault (Err (unread.Bad f)) = (read ≡ None) × (f ≡ fault)
-ReadsFile read fault (Err unread.NoMemory) = Unit {0}
+-- the fault is that of bytes that say nothing, or memory was wanting
+abbrev pub IsUnread : {A : Type 0} → Option A → ObjectFault → Unread → Type 0
+IsUnread read fault (unread.Bad f) = (read ≡ None) × (f ≡ fault)
+IsUnread read fault unread.NoMemory = Unit {0}

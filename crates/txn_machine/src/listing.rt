@@ -1,5 +1,5 @@
 // What a listing of the log says of the commits.
-ghost use Rattle.std.specs.Prelude.{◌≡◌, ◌≤◌, ◌<◌, ◌+◌, ◌^◌, ℕ, Bool, List, length, IfOk};
+ghost use Rattle.std.specs.Prelude.{◌≡◌, ◌≤◌, ◌<◌, ◌+◌, ◌^◌, ℕ, suc, Bool, List, length, IfOk};
 ghost use Rattle.edge_api.specs.declared.call.Listed.{Listed as AListed};
 ghost use Rattle.txn_machine.specs.Phases.{newest, missing, commit_version, later, is_listed};
 ghost use Rattle.txn_machine.specs.Listing.{Marks, mark_at};
@@ -30,7 +30,7 @@ fn later(first: Option<u64>, second: Option<u64>) -> Option<u64>
 }
 
 /// The greatest version that is listed.
-#[tactic(auto, using(crate::proofs::Listings::later_assoc, crate::proofs::Listings::later_none))]
+
 pub fn newest_version(listing: &[Listed]) -> Option<u64>
     ensures { result ≡ newest listing.now }
 {
@@ -86,7 +86,7 @@ fn marks_of(
 }
 
 /// The greatest version that isn't listed, of so many from the first on. The error is want of memory.
-pub fn missing_version(
+fn missing_version(
     alloc: Global,
     listing: &[Listed],
     first: u64,
@@ -97,4 +97,16 @@ pub fn missing_version(
 {
     let marks = marks_of(alloc, listing, first, count)?;
     Ok(last_unmarked(&marks, first, listing))
+}
+
+/// The greatest version up to this one that isn't listed. The error is want of memory.
+pub fn missing_up_to(
+    alloc: Global,
+    listing: &[Listed],
+    version: u64,
+) -> Result<Option<u64>, AllocError>
+    requires { version < 2 ^ 20 }
+    ensures { IfOk result (λ gone. gone ≡ missing listing.now 0 (suc version)) }
+{
+    missing_version(alloc, listing, 0, version as usize + 1)
 }

@@ -6,18 +6,19 @@ ghost use Rattle.edge_api.specs.declared.call.Listed.{Listed as AListed};
 ghost use Rattle.edge_api.specs.Journal.{IsOfKind};
 ghost use Rattle.row_base.specs.declared.row.Datum.{Datum as ADatum};
 ghost use Rattle.op_types.specs.declared.reply.Reply.{Reply as AReply};
+ghost use Rattle.op_types.specs.declared.refusal.Refusal.TheVariants as refusal;
 ghost use Rattle.table_rules.specs.Names.{log_prefix, commit_text, data_text};
 ghost use Rattle.line_texts.specs.Texts.{text_of_add, text_of_rows, text_of_columns};
 ghost use Rattle.snapshot_replay.specs.Table.{no_table, paths_of};
 ghost use Rattle.call_phases.specs.Phases.{Entries};
-ghost use Rattle.txn_machine.specs.Phases.{AtLoad, AtFiles, Cut, missing, newest};
+ghost use Rattle.txn_machine.specs.Phases.{AtLoad, AtFiles, Cut, Ends, missing, newest};
 ghost use Rattle.txn_machine.specs.Answered.{AtLog, AtData, rows_of_files, Sorts, Selected, Selects, Appends, AfterLoad, AfterListing, Loads, Makes, AtCommit, committed, names_of, refusal_of, IsSelected};
 ghost use Rattle.edge_api.specs.Actor.{IsFit};
 ghost use Rattle.committer.specs.Machine as attempts;
 ghost use Rattle.committer.specs.Machine.{IsReady};
 ghost use Rattle.txn_machine.specs.Machine.{reply_after, landed_after, AtAttempting, FedTo, Rest, Follows, call_of, left_of, ahead_of, or_no_memory, first_get};
 
-use crate::listing::{missing_version, newest_version};
+use crate::listing::{missing_up_to, newest_version};
 use crate::stage::{Ahead, Attempting, DataPut, Files, Listing, Loading, Plan, Stage, Start};
 use crate::texts::{apply_commit, rows_of_file, Unread};
 use crate::CommitJudge;
@@ -34,16 +35,31 @@ use table_rules::{commit_name, data_file_name, log_prefix};
 /// The first version that isn't supported.
 const VERSION_LIMIT: u64 = 1_048_576;
 
-/// The rows of files in order.
-fn sorted_rows(alloc: Global, files: Vec<ScannedFile>) -> Result<Rows, AllocError>
-    ensures { IfOk result (λ rows. Sorts (rows_of_files files.items) rows) }
+/// The rows of files, one file after another. The error is want of memory.
+fn all_rows(alloc: Global, files: Vec<ScannedFile>) -> Result<Vec<Row>, AllocError>
+    ensures { IfOk result (λ rows. rows.items ≡ rows_of_files files.items) }
 {
     let mut rows: Vec<Row> = Vec::new(alloc);
     for file in files {
         let mut more = file.rows.into_vec();
         rows.append(&mut more)?;
     }
+    Ok(rows)
+}
+
+/// The rows in order.
+fn sort_rows(rows: &mut [Row])
+    ensures { Sorts rows.old rows.new }
+{
     rows.sort_unstable_by(|a, b| cmp_rows(a, b));
+}
+
+/// The rows of files in order. The error is want of memory.
+fn sorted_rows(alloc: Global, files: Vec<ScannedFile>) -> Result<Rows, AllocError>
+    ensures { IfOk result (λ rows. Sorts (rows_of_files files.items) rows) }
+{
+    let mut rows = all_rows(alloc, files)?;
+    sort_rows(&mut rows);
     Ok(Rows::make(rows))
 }
 
@@ -81,14 +97,6 @@ impl Ahead {
             Ok(ahead) => ahead,
             Err(_) => Ahead::refused(Refusal::NoMemory),
         }
-    }
-
-    /// A commit that is needed isn't listed. The error is want of memory.
-    pub fn log_gone(alloc: Global, version: u64) -> Result<Ahead, AllocError>
-        ensures { IfOk result (λ a. a ≡ ahead_of (Stage.Done (Reply.Refused (Refusal.LogGone (commit_text version))))) }
-    {
-        let name = commit_name(alloc, version)?;
-        Ok(Ahead::refused(Refusal::LogGone { name }))
     }
 
     /// The first of the data files is got next. The error is want of memory.
@@ -129,14 +137,16 @@ fn make_loading(
     alloc: Global,
     statement: Statement,
     start: u64,
+    read: u64,
     at: u64,
     left: u64,
     state: State,
 ) -> Result<(Loading, Call), AllocError>
-    requires { at + left < 2 ^ 20 }
+    requires sum { at + left ≡ read }
+    requires bound { read < 2 ^ 20 }
     ensures statement { IfOk result (λ x. x.0.statement ≡ statement) }
     ensures start { IfOk result (λ x. x.0.start ≡ start) }
-    ensures read { IfOk result (λ x. x.0.read ≡ at + left) }
+    ensures read { IfOk result (λ x. x.0.read ≡ read) }
     ensures at { IfOk result (λ x. x.0.at ≡ at) }
     ensures left { IfOk result (λ x. x.0.left ≡ left) }
     ensures state { IfOk result (λ x. x.0.state ≡ state) }
@@ -147,7 +157,7 @@ fn make_loading(
     let loading = Loading {
         statement,
         start,
-        read: at + left,
+        read,
         at,
         left,
         state,
@@ -197,13 +207,14 @@ impl Plan {
     }
 
     /// The commit of a version is got, and so many after it.
-    fn gets(self, statement: Statement, start: u64, at: u64, left: u64, state: State) -> Ahead
-        requires { at + left < 2 ^ 20 }
+    fn gets(self, statement: Statement, start: u64, read: u64, at: u64, left: u64, state: State) -> Ahead
+        requires sum { at + left ≡ read }
+        requires bound { read < 2 ^ 20 }
         ensures ready { result.call ≡ call_of result.stage }
-        ensures follows { (es : Entries) (reply : Option AReply) → Rest self result.stage es reply → AtLoad reply (suc left) at state (AfterLoad self.tag self.limit statement start (at + left) reply) es }
+        ensures follows { (es : Entries) (reply : Option AReply) → Rest self result.stage es reply → AtLoad reply (suc left) at state (AfterLoad self.tag self.limit statement start read reply) es }
         ensures falls { left_of self result.stage ≤ length state.files + 2 * left + 3 * self.limit + 12 }
     {
-        match make_loading(self.alloc, statement, start, at, left, state) {
+        match make_loading(self.alloc, statement, start, read, at, left, state) {
             Ok((loading, call)) => Ahead {
                 stage: Stage::Loading(loading),
                 call: Some(call),
@@ -242,22 +253,29 @@ impl Plan {
         }
     }
 
+    /// The reply with the rows of the files got.
+    pub fn selected_reply(self, read: u64, live: u64, got: Vec<ScannedFile>) -> Reply
+        ensures { Selected read live (Some result) got.items [] }
+    {
+        let files_read = got.len() as u64;
+        match sorted_rows(self.alloc, got) {
+            Ok(rows) => Reply::Rows {
+                version: read,
+                rows,
+                files_read,
+                files_live: live,
+            },
+            Err(_) => Reply::Refused(Refusal::NoMemory),
+        }
+    }
+
     /// The rows of the files got.
     fn selected(self, read: u64, live: u64, got: Vec<ScannedFile>) -> Ahead
         ensures ready { result.call ≡ call_of result.stage }
         ensures follows { (es : Entries) (reply : Option AReply) → Rest self result.stage es reply → Selected read live reply got.items es }
         ensures falls { left_of self result.stage ≡ 0 }
     {
-        let files_read = got.len() as u64;
-        match sorted_rows(self.alloc, got) {
-            Ok(rows) => Ahead::done(Reply::Rows {
-                version: read,
-                rows,
-                files_read,
-                files_live: live,
-            }),
-            Err(_) => Ahead::refused(Refusal::NoMemory),
-        }
+        Ahead::done(self.selected_reply(read, live, got))
     }
 
     /// So many files are still to be got.
@@ -377,16 +395,18 @@ impl Plan {
         ensures follows { (es : Entries) (reply : Option AReply) → Rest self result.stage es reply → Cut reply es ⊎ AtLoad reply load.left (load.at + 1) load.state (AfterLoad self.tag self.limit load.statement load.start load.read reply) es }
         ensures falls { left_of self result.stage < length load.state.files + 2 * load.left + 3 * self.limit + 11 }
     {
-        if load.left == 0 {
-            self.loaded(load.statement, load.start, load.read, load.state)
-        } else {
-            self.gets(
-                load.statement,
-                load.start,
-                load.at + 1,
-                load.left - 1,
-                load.state,
-            )
+        let Loading {
+            statement,
+            start,
+            read,
+            at,
+            left,
+            state,
+            ..
+        } = load;
+        match left.checked_sub(1) {
+            None => self.loaded(statement, start, read, state),
+            Some(rest) => self.gets(statement, start, read, at + 1, rest, state),
         }
     }
 
@@ -398,7 +418,8 @@ impl Plan {
     {
         match answer {
             Answer::Body(text) => {
-                match apply_commit(self.alloc, &mut load.state, load.at, &text) {
+                let at = load.at;
+                match apply_commit(self.alloc, &mut load.state, at, &text) {
                     Ok(()) => self.commit_got(load),
                     Err(Unread::Bad(fault)) => Ahead::refused(Refusal::BadObject {
                         name: load.name,
@@ -414,6 +435,18 @@ impl Plan {
 }
 
 impl Plan {
+    /// A commit that is needed isn't listed.
+    fn gone(self, version: u64) -> Ahead
+        ensures ready { result.call ≡ call_of result.stage }
+        ensures follows { (es : Entries) (reply : Option AReply) → Rest self result.stage es reply → Cut reply es ⊎ Ends reply (refusal.LogGone (commit_text version)) es }
+        ensures falls { left_of self result.stage ≡ 0 }
+    {
+        match commit_name(self.alloc, version) {
+            Ok(name) => Ahead::refused(Refusal::LogGone { name }),
+            Err(_) => Ahead::refused(Refusal::NoMemory),
+        }
+    }
+
     /// The newest version is loaded, if the commits that are needed are listed.
     pub fn loads(
         self,
@@ -434,9 +467,9 @@ impl Plan {
                 feature: Feature::Versions,
             });
         }
-        match missing_version(self.alloc, listing, 0, read as usize + 1) {
-            Ok(None) => self.gets(statement, start, 0, read, State::new(self.alloc)),
-            Ok(Some(version)) => Ahead::or_no_memory(Ahead::log_gone(self.alloc, version)),
+        match missing_up_to(self.alloc, listing, read) {
+            Ok(None) => self.gets(statement, start, read, 0, read, State::new(self.alloc)),
+            Ok(Some(version)) => self.gone(version),
             Err(_) => Ahead::refused(Refusal::NoMemory),
         }
     }

@@ -1,7 +1,7 @@
 // Commits and data files that were got.
-ghost use Rattle.std.specs.Prelude.{◌≡◌, ◌≤◌, suc, length, OnErr};
+ghost use Rattle.std.specs.Prelude.{◌≡◌, ◌≤◌, suc, length, Some, IfOk, IfErr, OnOk};
 ghost use Rattle.txn_machine.specs.Texts.{read_commit, commit_fault, read_file, file_fault};
-ghost use Rattle.txn_machine.specs.Reading.{Applies, ReadsFile, unread_by};
+ghost use Rattle.txn_machine.specs.Reading.{Extends, IsUnread, unread_by};
 
 use edge_api::Body;
 use line_texts::{read_add, read_columns, read_rows, TextFault};
@@ -36,7 +36,8 @@ pub fn apply_commit(
     version: u64,
     text: &Body,
 ) -> Result<(), Unread>
-    ensures applies { Applies (read_commit version text.now) (commit_fault version text.now) state.old state.new result }
+    ensures ok { OnOk result (Extends (read_commit version text.now) state.old state.new) }
+    ensures err { IfErr result (IsUnread (read_commit version text.now) (commit_fault version text.now)) }
     ensures more { length state.new.files ≤ suc (length state.old.files) }
 {
     if version == 0 {
@@ -60,7 +61,8 @@ pub fn apply_commit(
 
 /// The rows of a data file.
 pub fn rows_of_file(alloc: Global, text: &Body) -> Result<Rows, Unread>
-    ensures { ReadsFile (read_file text.now) (file_fault text.now) result }
+    ensures ok { IfOk result (λ rows. read_file text.now ≡ Some rows) }
+    ensures err { IfErr result (IsUnread (read_file text.now) (file_fault text.now)) }
 {
     match read_rows(alloc, text.as_bytes()) {
         Ok(rows) => Ok(rows),

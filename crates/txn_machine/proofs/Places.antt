@@ -1,0 +1,81 @@
+-- Where a statement stands is told by its next call.
+use Rattle.std.proofs.Common.{◌≡◌, Bool, true, false, ℕ, List, [], ◌∷◌, refl, sym, ◌∙◌, ap, subst}
+use Rattle.std.specs.Prelude.{Option, Some, None, IfSome}
+use Rattle.edge_api.specs.declared.call.Call.{Call}
+use Rattle.edge_api.specs.declared.call.Tag.{Tag}
+use Rattle.edge_api.specs.declared.actor.Stage.{Stage as Place}
+use Rattle.edge_api.specs.declared.actor.Stage.TheVariants as place
+use Rattle.edge_api.specs.declared.actor.Fed.{Fed}
+use Rattle.edge_api.specs.declared.actor.Fed.TheVariants as fed
+use Rattle.edge_api.specs.Actor.{event_of}
+use Rattle.op_types.specs.declared.reply.Reply.{Reply}
+use Rattle.call_phases.specs.Phases.{Entries}
+use Rattle.committer.specs.Machine as attempts
+use Rattle.txn_machine.specs.declared.stage.Plan.{Plan}
+use Rattle.txn_machine.specs.declared.stage.Stage.{Stage}
+use Rattle.txn_machine.specs.declared.stage.Stage.TheVariants as stage
+use Rattle.txn_machine.specs.declared.txn.Txn.{Txn}
+use Rattle.txn_machine.specs.Machine.{Rest, Follows, FedTo, call_of, first_get}
+use Rattle.txn_machine.specs.Place.{place_of, place_of_put, place_of_files, place_of_attempts}
+use Rattle.txn_machine.specs.Txn.{Asks, Goes}
+
+files_done : (paths : List (List ℕ)) → first_get paths ≡ None → place_of_files paths ≡ place.Done
+files_done [] is = refl
+files_done (p ∷ ps) is = cc
+
+attempts_done : (o : Option Call) → o ≡ None → place_of_attempts o ≡ place.Done
+attempts_done None is = refl
+attempts_done (Some call) is = cc
+
+-- nothing is called any more
+pub is_done : (s : Stage) → call_of s ≡ None → place_of s ≡ place.Done
+is_done (stage.Start s) is = cc
+is_done (stage.Listing l) is = cc
+is_done (stage.Loading l) is = cc
+is_done (stage.Files f) is = files_done f.left.items is
+is_done (stage.Data d) is = cc
+is_done (stage.Attempting a) is = attempts_done (attempts.call_of a.attempts) is
+is_done (stage.Done r) is = refl
+
+files_not : (paths : List (List ℕ)) (c : Call) → first_get paths ≡ Some c → place_of_files paths ≡ place.Done → ⊥
+files_not [] c is done = cc
+files_not (p ∷ ps) c is done = cc
+
+put_not : (b : Bool) → place_of_put b ≡ place.Done → ⊥
+put_not true done = cc
+put_not false done = cc
+
+attempts_not : (o : Option Call) (c : Call) → o ≡ Some c → place_of_attempts o ≡ place.Done → ⊥
+attempts_not None c is done = cc
+attempts_not (Some call) c is done = put_not (attempts.is_put (Some call)) done
+
+-- something is still to be called
+pub not_done : (s : Stage) (c : Call) → call_of s ≡ Some c → place_of s ≡ place.Done → ⊥
+not_done (stage.Start s) c is done = cc
+not_done (stage.Listing l) c is done = cc
+not_done (stage.Loading l) c is done = cc
+not_done (stage.Files f) c is done = files_not f.left.items c is done
+not_done (stage.Data d) c is done = cc
+not_done (stage.Attempting a) c is done = attempts_not (attempts.call_of a.attempts) c is done
+not_done (stage.Done r) c is done = cc
+
+-- what the statement was fed leads on
+pub fed_leads : (old self : Txn) (tag : Tag) (call : Call) (input : Fed) (new : Txn) → Asks old tag call self → new.plan ≡ self.plan
+    → IfSome (call_of self.stage) (λ call. FedTo self.plan self.stage call input new.stage) → Goes old (event_of tag call input) new
+fed_leads old self tag call input new asks plan goes = by input (subst (λ (o : Option Call). IfSome o (λ c. FedTo self.plan self.stage c input new.stage)) (ap call_of asks.stage ∙ asks.is_call) goes)
+  where
+    by : (input : Fed) → FedTo self.plan self.stage call input new.stage → Goes old (event_of tag call input) new
+    by (fed.Answer answer) follows = (
+      plan ∙ asks.plan,
+      asks.is_tag,
+      λ es reply h.
+          let here : Follows old.plan old.stage call answer new.stage = subst (λ (s : Stage). Follows old.plan s call answer new.stage) asks.stage (subst (λ (p : Plan). Follows p self.stage call answer new.stage) asks.plan follows) in
+          subst (λ (t : Tag). Rest old.plan old.stage (record { tag = t; call = call; answer = answer } ∷ es) reply) (sym asks.is_tag) (here es reply h),
+    )
+    by fed.NoMemory ends = (
+      plan ∙ asks.plan,
+      λ es reply h.
+          let mine : Rest self.plan new.stage es reply = subst (λ (p : Plan). Rest p new.stage es reply) (sym asks.plan) h in
+          let e = ends es reply mine in
+          (e.0, subst (λ (s : Stage). Rest old.plan s es reply) asks.stage (subst (λ (p : Plan). Rest p self.stage es reply) asks.plan e.1)),
+    )
