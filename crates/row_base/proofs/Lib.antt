@@ -1,3 +1,4 @@
 pub mod RowOrder
 pub mod FirstAfter
 pub mod SchemaLemmas
+pub mod RowLemmas
