@@ -181,31 +181,31 @@ impl Schema {
         if let Some(fault) = self.settled_fault(&row) {
             return Err(Unsettled { row, fault });
         }
-        let mut data = row.into_vec();
-        settle_data(self.columns(), &mut data);
-        Ok(Row::make(data))
+        let mut values = row.into_vec();
+        settle_values(self.columns(), &mut values);
+        Ok(Row::make(values))
     }
 
     /// The first fault of a row.
     fn fault_of(&self, row: &Row) -> Option<RowFault>
         ensures { result ≡ row_fault self.now row.now }
     {
-        let (columns, data) = (self.columns(), row.as_slice());
-        if data.len() != columns.len() {
+        let (columns, values) = (self.columns(), row.as_slice());
+        if values.len() != columns.len() {
             return Some(RowFault::Count);
         }
-        first_wrong_datum(self.partition(), columns, data)
+        first_wrong_datum(self.partition(), columns, values)
     }
 
     /// The first fault of a row once it is settled.
     fn settled_fault(&self, row: &Row) -> Option<RowFault>
         ensures { result ≡ row_fault self.now (settled self.now.columns row.now) }
     {
-        let (columns, data) = (self.columns(), row.as_slice());
-        if data.len() != columns.len() {
+        let (columns, values) = (self.columns(), row.as_slice());
+        if values.len() != columns.len() {
             return Some(RowFault::Count);
         }
-        first_wrong_settled(self.partition(), columns, data)
+        first_wrong_settled(self.partition(), columns, values)
     }
 }
 
@@ -272,13 +272,13 @@ fn wrong_null(place: u32, nullable: bool) -> Option<RowFault>
 }
 
 /// What is wrong with the first column that is.
-fn first_wrong_datum(partition: &[u32], columns: &[Column], data: &[Datum]) -> Option<RowFault>
-    requires same { length data.now ≡ length columns.now }
+fn first_wrong_datum(partition: &[u32], columns: &[Column], values: &[Datum]) -> Option<RowFault>
+    requires same { length values.now ≡ length columns.now }
     requires few { length columns.now ≤ 64 }
-    ensures { result ≡ first_datum_fault partition.now 0 columns.now data.now }
+    ensures { result ≡ first_datum_fault partition.now 0 columns.now values.now }
 {
     for (i, column) in columns.iter().enumerate() {
-        let fault = wrong_datum(partition, i as u32, column, &data[i]);
+        let fault = wrong_datum(partition, i as u32, column, &values[i]);
         if fault.is_some() {
             return fault;
         }
@@ -370,13 +370,13 @@ fn wrong_settled(partition: &[u32], place: u32, column: &Column, datum: &Datum) 
 }
 
 /// What is wrong with the first column that is once the row is settled.
-fn first_wrong_settled(partition: &[u32], columns: &[Column], data: &[Datum]) -> Option<RowFault>
-    requires same { length data.now ≡ length columns.now }
+fn first_wrong_settled(partition: &[u32], columns: &[Column], values: &[Datum]) -> Option<RowFault>
+    requires same { length values.now ≡ length columns.now }
     requires few { length columns.now ≤ 64 }
-    ensures { result ≡ first_datum_fault partition.now 0 columns.now (settled columns.now data.now) }
+    ensures { result ≡ first_datum_fault partition.now 0 columns.now (settled columns.now values.now) }
 {
     for (i, column) in columns.iter().enumerate() {
-        let fault = wrong_settled(partition, i as u32, column, &data[i]);
+        let fault = wrong_settled(partition, i as u32, column, &values[i]);
         if fault.is_some() {
             return fault;
         }
@@ -385,12 +385,12 @@ fn first_wrong_settled(partition: &[u32], columns: &[Column], data: &[Datum]) ->
 }
 
 /// Makes each datum what its column takes it as.
-fn settle_data(columns: &[Column], data: &mut [Datum])
-    requires { length data.old ≡ length columns.now }
-    ensures { data.new ≡ settled columns.now data.old }
+fn settle_values(columns: &[Column], values: &mut [Datum])
+    requires { length values.old ≡ length columns.now }
+    ensures { values.new ≡ settled columns.now values.old }
 {
     for (i, column) in columns.iter().enumerate() {
-        settle_datum(column.kind, &mut data[i]);
+        settle_datum(column.kind, &mut values[i]);
     }
 }
 

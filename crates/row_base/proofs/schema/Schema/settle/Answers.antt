@@ -7,8 +7,8 @@ pub returns-in-Some-clause-fits : goal.returns-in-Some-clause-fits
 returns-in-Some-clause-fits c =
     (λ e. cc, λ f. let none = no_fault c.args.self.now (settled c.args.self.now.columns c.args.row) f in cc)
 
-pub settle_data-requires : goal.settle_data-requires
-settle_data-requires c =
+pub settle_values-requires : goal.settle_values-requires
+settle_values-requires c =
     let e : row_fault c.args.self.now (settled c.args.self.now.columns c.args.row) ≡ None = cc in
     let fits = fits_schema c.args.self.now (settled c.args.self.now.columns c.args.row) e in
     let long : length c.args.row ≡ length c.args.self.now.columns = sym (length-settled c.args.self.now.columns c.args.row) ∙ fits.count in

@@ -2,9 +2,9 @@ use Rattle.std.proofs.Common.{◌≡◌, ◌≢◌, length, sym, ◌∙◌, ap}
 use Rattle.row_base.proofs.RowLemmas.{wrong_count, right_count}
 use Rattle.row_base.proofs.schema.Schema.settled_fault.Goals as goal
 
-pub returns-then-data-columns : goal.returns-then-data-columns
-returns-then-data-columns c =
-    let apart : length c.args.row.now ≢ length c.args.self.now.columns = λ long. c.if-data-columns.true (ap length c.as_slice-data.ensures ∙ long ∙ sym (ap length c.columns-columns.ensures.value)) in
+pub returns-then-values-columns : goal.returns-then-values-columns
+returns-then-values-columns c =
+    let apart : length c.args.row.now ≢ length c.args.self.now.columns = λ long. c.if-values-columns.true (ap length c.as_slice-values.ensures ∙ long ∙ sym (ap length c.columns-columns.ensures.value)) in
     let e = wrong_count c.args.self.now c.args.row.now apart in
     sym e
 
