@@ -2,3 +2,4 @@ pub mod RowOrder
 pub mod FirstAfter
 pub mod SchemaLemmas
 pub mod RowLemmas
+pub mod DateLemmas

@@ -1,3 +1,4 @@
+pub mod Dates
 pub mod RowOrder
 pub mod RowOrderLaws
 pub mod Schema
