@@ -3,3 +3,4 @@ pub mod FirstAfter
 pub mod SchemaLemmas
 pub mod RowLemmas
 pub mod DateLemmas
+pub mod Bags

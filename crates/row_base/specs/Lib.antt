@@ -1,3 +1,4 @@
+pub mod Bags
 pub mod Dates
 pub mod RowOrder
 pub mod RowOrderLaws
