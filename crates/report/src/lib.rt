@@ -1,0 +1,10 @@
+//! The replies of a run as they are printed.
+#![tactic(auto)]
+
+mod literal;
+mod push;
+mod refusal;
+mod reply;
+
+pub use literal::push_row;
+pub use reply::print_replies;
