@@ -52,10 +52,10 @@ fn push_datum(alloc: Global, text: &mut Vec<u8>, datum: &Datum) -> Result<(), No
     }
 }
 
-fn push_others(alloc: Global, text: &mut Vec<u8>, data: &[Datum]) -> Result<(), NoMemory>
-    ensures { OnOk result (text.new.items ≡ text.old.items ++ flat_map (λ datum. 44 ∷ spec.text_of_datum datum) data.now) }
+fn push_others(alloc: Global, text: &mut Vec<u8>, others: &[Datum]) -> Result<(), NoMemory>
+    ensures { OnOk result (text.new.items ≡ text.old.items ++ flat_map (λ datum. 44 ∷ spec.text_of_datum datum) others.now) }
 {
-    for datum in data {
+    for datum in others {
         text.push(b',')?;
         push_datum(alloc, text, datum)?;
     }
@@ -100,10 +100,10 @@ fn is_long(datum: &Datum) -> bool
     }
 }
 
-fn are_longs(data: &[Datum]) -> bool
-    ensures { result ≡ list_all spec.is_long data.now }
+fn are_longs(row: &[Datum]) -> bool
+    ensures { result ≡ list_all spec.is_long row.now }
 {
-    data.iter().all(|datum| is_long(datum))
+    row.iter().all(|datum| is_long(datum))
 }
 
 fn is_long_row(row: &Row) -> bool

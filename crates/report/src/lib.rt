@@ -6,5 +6,4 @@ mod push;
 mod refusal;
 mod reply;
 
-pub use literal::push_row;
 pub use reply::print_replies;

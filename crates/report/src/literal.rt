@@ -93,19 +93,19 @@ fn push_behind_comma(alloc: Global, out: &mut Vec<u8>, datum: &Datum) -> Result<
     Ok(())
 }
 
-fn push_others(alloc: Global, out: &mut Vec<u8>, data: &[Datum]) -> Result<(), NoMemory>
-    ensures { OnOk result (out.new.items ≡ out.old.items ++ flat_map spec.behind_comma data.now) }
+fn push_others(alloc: Global, out: &mut Vec<u8>, others: &[Datum]) -> Result<(), NoMemory>
+    ensures { OnOk result (out.new.items ≡ out.old.items ++ flat_map spec.behind_comma others.now) }
 {
-    for datum in data {
+    for datum in others {
         push_behind_comma(alloc, out, datum)?;
     }
     Ok(())
 }
 
-fn push_data(alloc: Global, out: &mut Vec<u8>, data: &[Datum]) -> Result<(), NoMemory>
-    ensures { OnOk result (out.new.items ≡ out.old.items ++ spec.data_text data.now) }
+fn push_data(alloc: Global, out: &mut Vec<u8>, row: &[Datum]) -> Result<(), NoMemory>
+    ensures { OnOk result (out.new.items ≡ out.old.items ++ spec.data_text row.now) }
 {
-    match data.split_first() {
+    match row.split_first() {
         Some((first, others)) => {
             push_datum(alloc, out, first)?;
             push_others(alloc, out, others)?;

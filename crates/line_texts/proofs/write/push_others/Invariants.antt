@@ -5,4 +5,4 @@ use Rattle.line_texts.specs.Texts.{text_of_datum}
 use Rattle.line_texts.proofs.write.push_others.Given as goal
 
 abbrev pub invariant-loop-datum : goal.invariant-loop-datum
-invariant-loop-datum l = l.text.items ≡ l.initial.text.items ++ flat_map (λ datum. 44 ∷ text_of_datum datum) (take l.datum-index l.«data»)
+invariant-loop-datum l = l.text.items ≡ l.initial.text.items ++ flat_map (λ datum. 44 ∷ text_of_datum datum) (take l.datum-index l.others)
