@@ -7,3 +7,6 @@ mod refusal;
 mod reply;
 
 pub use reply::print_replies;
+
+#[cfg(test)]
+mod tests;

@@ -69,7 +69,11 @@ fn push_date(alloc: Global, out: &mut Vec<u8>, day: i32) -> Result<(), NoMemory>
 fn push_boolean(out: &mut Vec<u8>, b: bool) -> Result<(), NoMemory>
     ensures { OnOk result (out.new.items ≡ out.old.items ++ spec.boolean_text b) }
 {
-    if b { push(out, b"true") } else { push(out, b"false") }
+    if b {
+        push(out, b"true")
+    } else {
+        push(out, b"false")
+    }
 }
 
 fn push_datum(alloc: Global, out: &mut Vec<u8>, datum: &Datum) -> Result<(), NoMemory>
