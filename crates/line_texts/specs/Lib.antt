@@ -1,2 +1,5 @@
+pub mod Pieces
+pub mod Numbers
 pub mod Texts
 pub mod Answers
+pub mod Laws

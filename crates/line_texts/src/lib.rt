@@ -1,14 +1,19 @@
 //! The texts of commits and data files, line by line, both ways.
 #![tactic(auto)]
 
-ghost use Rattle.std.specs.Prelude.{◌≡◌, IfOk, All};
-ghost use Rattle.line_texts.specs.Texts.{columns_of_text, path_of_text, rows_of_text, bad_line_of_columns, bad_line_of_path, bad_line_of_rows, text_of_columns, text_of_add, text_of_rows};
-ghost use Rattle.line_texts.specs.Answers.{Gives};
+mod numbers;
+mod pieces;
+mod read;
+mod write;
 
-use edge_api::Name;
-use row_base::{NoMemory, Row, Rows, Text};
-use std::alloc::Global;
+ghost use Rattle.std.specs.Prelude.{◌≡◌};
+ghost use Rattle.line_texts.specs.Laws.{ColumnsReadBack, PathReadsBack, RowsReadBack, ColumnsAreWritten, PathIsWritten, RowsAreWritten};
+
+pub use read::{read_add, read_columns, read_rows};
+use row_base::{NoMemory, Text};
+use std::alloc::{AllocError, AllocFailed};
 use std::marker::Model;
+pub use write::{are_long_rows, write_add, write_columns, write_rows};
 
 /// Why a text has no reading.
 #[derive(Clone, Copy, Debug, Drop, PartialEq, Eq)]
@@ -16,6 +21,39 @@ pub enum TextFault {
     /// The first bad line, counted from 1.
     Line(u32),
     NoMemory,
+}
+
+impl From<NoMemory> for TextFault {
+    ghost use Rattle.std.specs.Prelude.{◌≡◌};
+    ghost use Rattle.line_texts.specs.declared.TextFault.TheVariants.{NoMemory};
+
+    ghost from_gives = { λ _ e. e ≡ NoMemory };
+
+    fn from(_refused: NoMemory) -> TextFault {
+        TextFault::NoMemory
+    }
+}
+
+impl From<AllocError> for TextFault {
+    ghost use Rattle.std.specs.Prelude.{◌≡◌};
+    ghost use Rattle.line_texts.specs.declared.TextFault.TheVariants.{NoMemory};
+
+    ghost from_gives = { λ _ e. e ≡ NoMemory };
+
+    fn from(_refused: AllocError) -> TextFault {
+        TextFault::NoMemory
+    }
+}
+
+impl<T: Drop> From<AllocFailed<T>> for TextFault {
+    ghost use Rattle.std.specs.Prelude.{◌≡◌};
+    ghost use Rattle.line_texts.specs.declared.TextFault.TheVariants.{NoMemory};
+
+    ghost from_gives = { λ _ e. e ≡ NoMemory };
+
+    fn from(_refused: AllocFailed<T>) -> TextFault {
+        TextFault::NoMemory
+    }
 }
 
 /// Names, in order.
@@ -48,44 +86,16 @@ impl Names {
     }
 }
 
-/// The text of a commit that makes a table with columns of these names.
-pub fn write_columns(alloc: Global, names: &[Text]) -> Result<Vec<u8>, NoMemory>
-    ensures { IfOk result (λ text. text.items ≡ text_of_columns names.now) }
-{
-    Err(NoMemory)
-}
+/// Each text that is written of words, of a path or of rows of numbers reads back, and a text that reads is the one
+/// that is written of what it reads as.
+pub fn texts_read_back()
+    ensures columns_back { ColumnsReadBack }
+    ensures path_back { PathReadsBack }
+    ensures rows_back { RowsReadBack }
+    ensures columns_written { ColumnsAreWritten }
+    ensures path_written { PathIsWritten }
+    ensures rows_written { RowsAreWritten }
+{}
 
-/// The text of a commit that appends a file.
-pub fn write_add(alloc: Global, path: &Name) -> Result<Vec<u8>, NoMemory>
-    ensures { IfOk result (λ text. text.items ≡ text_of_add path.now) }
-{
-    Err(NoMemory)
-}
-
-/// The text of a data file with these rows.
-pub fn write_rows(alloc: Global, rows: &[Row]) -> Result<Vec<u8>, NoMemory>
-    ensures { IfOk result (λ text. text.items ≡ text_of_rows rows.now) }
-{
-    Err(NoMemory)
-}
-
-/// The names of the columns that a commit's text has.
-pub fn read_columns(alloc: Global, text: &[u8]) -> Result<Names, TextFault>
-    ensures { Gives (λ n. n) (columns_of_text text.now) (bad_line_of_columns text.now) result }
-{
-    Err(TextFault::NoMemory)
-}
-
-/// The path that a commit's text adds.
-pub fn read_add(alloc: Global, text: &[u8]) -> Result<Name, TextFault>
-    ensures { Gives (λ n. n) (path_of_text text.now) (bad_line_of_path text.now) result }
-{
-    Err(TextFault::NoMemory)
-}
-
-/// The rows of a data file.
-pub fn read_rows(alloc: Global, text: &[u8]) -> Result<Rows, TextFault>
-    ensures { Gives (λ r. r) (rows_of_text text.now) (bad_line_of_rows text.now) result }
-{
-    Err(TextFault::NoMemory)
-}
+#[cfg(test)]
+mod tests;

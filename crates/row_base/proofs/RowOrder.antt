@@ -1,63 +1,16 @@
--- The order of rows is total and tells every two rows apart.
-use Rattle.std.proofs.Common.{◌≡◌, ℕ, ℤ, pos, Bool, true, false, List, [], ◌∷◌, refl, sym, ◌∙◌, ap, subst}
+-- The order of rows tells every two rows apart.
+use Rattle.std.proofs.Common.{◌≡◌, ℤ, Bool, true, false, List, [], ◌∷◌, refl, sym, ◌∙◌, ap}
 use Rattle.std.specs.declared.cmp.Ordering.{Ordering}
 use Rattle.std.specs.declared.cmp.Ordering.TheVariants.{Less, Equal, Greater}
-use Rattle.std.specs.Cmp.{IsTotalOrder, bool_cmp_total}
+use Rattle.std.specs.Bool.{Decides}
+use Rattle.std.specs.Cmp.{Equal-is}
 use Rattle.std.specs.Cmp.Lexicographic.{slice_cmp, texts_ties, bytes_decides}
-use Rattle.std.specs.Ordering.{nat_cmp, int_cmp, bool_cmp, on, then_cmp, ordering_then, is_eq}
-use Rattle.std.proofs.lemmas.Cmp.{int_ranked, nat_cmp_total, int_cmp_total, nat_list_cmp_total, lists_total, on_total, then_total}
+use Rattle.std.specs.Ordering.{int_cmp, bool_cmp, ordering_then, is_eq}
+use Rattle.std.proofs.lemmas.Cmp.{int_ranked, tied_itself}
 use Rattle.row_base.specs.declared.row.Datum.{Datum}
 use Rattle.row_base.specs.declared.row.Datum.TheVariants.{Null, Long, Integer, Boolean, Text, Date}
-use Rattle.row_base.specs.RowOrder.{rank_of, datum_cmp, row_cmp, IsToldApart}
-
--- the number, the flag and the text that a datum holds
-abbrev number_of : Datum → ℤ
-number_of (Long n) = n
-number_of (Integer n) = n
-number_of (Date n) = n
-number_of d = pos 0
-
-abbrev flag_of : Datum → Bool
-flag_of (Boolean b) = b
-flag_of d = false
-
-abbrev text_of : Datum → List ℕ
-text_of (Text t) = t
-text_of d = []
-
--- the same order, by the variant's place and then by what the datum holds
-abbrev by_parts : Datum → Datum → Ordering
-by_parts = then_cmp (on rank_of nat_cmp) (then_cmp (on number_of int_cmp) (then_cmp (on flag_of bool_cmp) (on text_of (slice_cmp nat_cmp))))
-
-by_parts_total : IsTotalOrder by_parts
-by_parts_total =
-    then_total (on_total rank_of nat_cmp_total)
-    (then_total (on_total number_of int_cmp_total) (then_total (on_total flag_of bool_cmp_total) (on_total text_of nat_list_cmp_total)))
-
-then-Equal : (r : Ordering) → ordering_then r Equal ≡ r
-then-Equal Less = refl
-then-Equal Equal = refl
-then-Equal Greater = refl
-
-same_order : (x y : Datum) → by_parts x y ≡ datum_cmp x y
-same_order Null Null = refl
-same_order Null (Long y) = refl
-same_order Null (Integer y) = refl
-same_order Null (Boolean y) = refl
-same_order Null (Text y) = refl
-same_order Null (Date y) = refl
-same_order (Long x) (Long y) = then-Equal (int_cmp x y)
-same_order (Integer x) (Integer y) = then-Equal (int_cmp x y)
-same_order (Boolean x) (Boolean y) = then-Equal (bool_cmp x y)
-same_order (Text x) (Text y) = refl
-same_order (Date x) (Date y) = then-Equal (int_cmp x y)
-same_order x y = refl
-
-pub datum_cmp_total : IsTotalOrder datum_cmp
-datum_cmp_total = subst IsTotalOrder (λ i x y. same_order x y i) by_parts_total
-
-pub row_cmp_total : IsTotalOrder row_cmp
-row_cmp_total = lists_total datum_cmp_total
+use Rattle.row_base.specs.RowOrder.{row_eq, datum_cmp, row_cmp, IsToldApart}
+use Rattle.row_base.specs.RowOrderLaws.{row_cmp_total}
 
 int_apart : (x y : ℤ) → int_cmp x y ≡ Equal → x ≡ y
 int_apart x y e = int_ranked x y Equal (sym e)
@@ -104,3 +57,9 @@ lists_apart order apart (x ∷ xs) (y ∷ ys) e =
 
 pub row_apart : IsToldApart row_cmp
 row_apart = lists_apart datum_cmp datum_apart
+
+-- the test on rows decides their equality
+pub row_decides : (x y : List Datum) → Decides (row_eq x y) (x ≡ y)
+row_decides x y =
+    (λ e. row_apart x y ((Equal-is (row_cmp x y)).0 e),
+        λ e. ap (λ z. is_eq (row_cmp x z)) (sym e) ∙ (Equal-is (row_cmp x x)).1 (tied_itself row_cmp_total x))

@@ -1,6 +1,6 @@
 -- The order of data and of rows.
-use Rattle.std.specs.Prelude.{◌≡◌, ℕ, List}
-use Rattle.std.specs.Ordering.{nat_cmp, int_cmp, bool_cmp}
+use Rattle.std.specs.Prelude.{◌≡◌, ℕ, Bool, List}
+use Rattle.std.specs.Ordering.{nat_cmp, int_cmp, bool_cmp, is_eq}
 use Rattle.std.specs.declared.cmp.Ordering.{Ordering}
 use Rattle.std.specs.declared.cmp.Ordering.TheVariants.{Less, Equal, Greater}
 use Rattle.std.specs.Cmp.Lexicographic.{slice_cmp}
@@ -28,6 +28,10 @@ datum_cmp x y = nat_cmp (rank_of x) (rank_of y)
 -- the first column that differs decides, and else the length
 abbrev pub row_cmp : List Datum → List Datum → Ordering
 row_cmp = slice_cmp datum_cmp
+
+-- two rows are the same: the order does not tell them apart
+abbrev pub row_eq : List Datum → List Datum → Bool
+row_eq a b = is_eq (row_cmp a b)
 
 -- an order that is equal at equal values alone
 abbrev pub IsToldApart : {A : Type 0} → (A → A → Ordering) → Type 0

@@ -1,7 +1,7 @@
 -- What a schema is, which rows fit it, and the first fault of columns and of rows.
 use Rattle.std.specs.Prelude.{◌≡◌, ◌≢◌, ℕ, ◌+◌, ◌^◌, ◌<◌, ◌≤◌, ◌==◌, nat_lt, nat_le, Bool, true, false, not, ◌||◌, ◌&&◌, if◌then◌else◌, List, [], ◌∷◌, ◌++◌, length, Option, Some, None, ℤ, pos, negsuc, slice_index_or}
-use Rattle.std.specs.List.{list_any, All, AllPairs}
-use Rattle.std.specs.Option.{option_map, option_or}
+use Rattle.std.specs.List.{list_any, position, All, AllPairs}
+use Rattle.std.specs.Option.{option_map, option_map_or, option_or}
 use Rattle.std.specs.Cmp.Lexicographic.{pointwise}
 use Rattle.row_base.specs.declared.row.Datum.{Datum}
 use Rattle.row_base.specs.declared.row.Datum.TheVariants as datum
@@ -40,6 +40,14 @@ is_wrong_place count before place =
 -- one column at least, and 64 at most
 abbrev pub is_column_count : ℕ → Bool
 is_column_count n = nat_lt 0 n && nat_le n 64
+
+-- the place of the column of this name
+abbrev pub column_place : TableSchema → List ℕ → Option ℕ
+column_place s name = position (λ c. pointwise ◌==◌ c.name name) s.columns
+
+-- the column at this place is a partition column
+abbrev pub is_partition_column : TableSchema → ℕ → Bool
+is_partition_column s place = list_any (λ p. p == place) s.partition
 
 -- why columns and places make no schema: the count first, then the names, then the places
 abbrev pub schema_fault : List Column → List ℕ → Option SchemaFault
@@ -102,10 +110,14 @@ abbrev pub is_i32 : ℤ → Bool
 is_i32 (pos n) = nat_lt n (2 ^ 31)
 is_i32 (negsuc n) = nat_lt n (2 ^ 31)
 
--- a datum as a column takes it: a long that fits is an integer in a column of integers
+-- the integer that a long is in a column of integers, where it fits
+abbrev pub narrowed_number : Kind → Datum → Option ℤ
+narrowed_number kind.Integer (datum.Long n) = if is_i32 n then Some n else None
+narrowed_number k d = None
+
+-- a datum as a column takes it
 abbrev pub settled_datum : Kind → Datum → Datum
-settled_datum kind.Integer (datum.Long n) = if is_i32 n then datum.Integer n else datum.Long n
-settled_datum k d = d
+settled_datum k d = option_map_or datum.Integer (narrowed_number k d) d
 
 -- the row with each datum as its column takes it
 abbrev pub settled : List Column → List Datum → List Datum

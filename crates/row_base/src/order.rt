@@ -1,7 +1,9 @@
 //! The order of rows.
-ghost use Rattle.std.specs.Prelude.{◌≡◌};
+ghost use Rattle.std.specs.Prelude.{◌≡◌, List};
+ghost use Rattle.std.specs.Bool.{Decides};
 ghost use Rattle.std.specs.Cmp.{IsTotalOrder};
-ghost use Rattle.row_base.specs.RowOrder.{row_cmp, IsToldApart};
+ghost use Rattle.row_base.specs.declared.row.Datum.{Datum};
+ghost use Rattle.row_base.specs.RowOrder.{row_cmp, row_eq, IsToldApart};
 
 use crate::Row;
 use std::cmp::Ordering;
@@ -19,5 +21,6 @@ pub fn cmp_rows(a: &Row, b: &Row) -> Ordering
 pub fn row_order_is_total()
     ensures total { IsTotalOrder row_cmp }
     ensures apart { IsToldApart row_cmp }
+    ensures same { (a b : List Datum) → Decides (row_eq a b) (a ≡ b) }
 {
 }

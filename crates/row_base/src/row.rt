@@ -1,7 +1,7 @@
 //! Data, rows and lists of rows.
 ghost use Rattle.std.specs.Prelude.{◌≡◌, IfOk};
 
-use crate::{NoMemory, Text};
+use crate::{NoMemory, Text, cmp_rows};
 use std::alloc::Global;
 use std::cmp::Ordering;
 use std::marker::Model;
@@ -47,7 +47,7 @@ impl Datum {
 /// A row: a datum for each column, in the order of the columns.
 #[derive(Debug, Drop)]
 pub struct Row {
-    data: Vec<Datum>,
+    values: Vec<Datum>,
 }
 
 impl Model for Row {
@@ -56,40 +56,94 @@ impl Model for Row {
 
     ghost Value = { List Datum };
 
-    ghost view = { λ a. a.data.items };
+    ghost view = { λ a. a.values.items };
 }
 
 impl Row {
     /// The row of these data.
-    pub fn make(data: Vec<Datum>) -> Row
-        ensures { result ≡ data.items }
+    pub fn make(values: Vec<Datum>) -> Row
+        ensures { result ≡ values.items }
     {
-        Row { data }
+        Row { values }
     }
 
     /// Its data.
     pub fn as_slice(&self) -> &[Datum]
         ensures { result.now ≡ self.now }
     {
-        self.data.as_slice()
+        self.values.as_slice()
     }
 
     /// Its data, handed over.
     pub fn into_vec(self) -> Vec<Datum>
         ensures { result.items ≡ self }
     {
-        self.data
+        self.values
     }
 
     /// An equal row. The bytes of its texts are shared.
     pub fn copy(&self, alloc: Global) -> Result<Row, NoMemory>
         ensures { IfOk result (λ r. r ≡ self.now) }
     {
-        let mut data = Vec::with_capacity(alloc, self.data.len())?;
-        for datum in self.data.as_slice() {
-            data.push(datum.copy()?)?;
+        let mut values = Vec::with_capacity(alloc, self.values.len())?;
+        for datum in self.values.as_slice() {
+            values.push(datum.copy()?)?;
         }
-        Ok(Row { data })
+        Ok(Row { values })
+    }
+}
+
+impl PartialEq for Row {
+    ghost use Rattle.std.specs.Cmp.{partial_equiv_from_equiv};
+    ghost use Rattle.row_base.specs.RowOrder.{row_eq};
+    ghost use Rattle.row_base.specs.RowOrderLaws.{row_eq_equivalence};
+
+    ghost eq = { row_eq };
+
+    ghost laws = { partial_equiv_from_equiv row_eq_equivalence };
+
+    fn eq(&self, other: &Row) -> bool {
+        cmp_rows(self, other).is_eq()
+    }
+}
+
+impl Eq for Row {
+    ghost use Rattle.row_base.specs.RowOrderLaws.{row_eq_equivalence};
+
+    ghost laws = { row_eq_equivalence };
+}
+
+impl Ord for Row {
+    ghost use Rattle.std.specs.Prelude.{refl};
+    ghost use Rattle.row_base.specs.RowOrder.{row_cmp};
+    ghost use Rattle.row_base.specs.RowOrderLaws.{row_cmp_total};
+
+    ghost cmp = { row_cmp };
+
+    ghost total = { row_cmp_total };
+
+    ghost matches_partial_cmp = { λ x y. refl };
+
+    ghost matches_eq = { λ x y. refl };
+
+    fn cmp(&self, other: &Row) -> Ordering {
+        cmp_rows(self, other)
+    }
+}
+
+impl PartialOrd for Row {
+    ghost use Rattle.std.specs.Prelude.{refl};
+    ghost use Rattle.std.specs.Ordering.{as_partial_cmp};
+    ghost use Rattle.std.specs.Cmp.{partial_order_from_agreeing_total};
+    ghost use Rattle.row_base.specs.RowOrder.{row_cmp};
+    ghost use Rattle.row_base.specs.RowOrderLaws.{row_cmp_total};
+
+    ghost partial_cmp = { as_partial_cmp row_cmp };
+
+    ghost laws = { partial_order_from_agreeing_total row_cmp row_cmp_total (λ x y. refl) (λ x y. refl) };
+
+    fn partial_cmp(&self, other: &Row) -> Option<Ordering> {
+        Some(self.cmp(other))
     }
 }
 

@@ -1,9 +1,10 @@
 //! Columns, schemas, and whether a row fits a schema.
-ghost use Rattle.std.specs.Prelude.{◌≡◌, ◌↔◌, ◌<◌, ◌≤◌, ◌==◌, ◌^◌, [], length, IfOk, OnErr, IsOk, IsTrue, MatchResult, Some, None, MatchOption};
+ghost use Rattle.std.specs.Prelude.{◌≡◌, ◌↔◌, ◌<◌, ◌≤◌, ◌==◌, ◌^◌, [], length, IfOk, IfErr, IsOk, IsTrue, MatchResult, Some, None, if◌then◌else◌};
 ghost use Rattle.std.specs.Option.{option_map};
-ghost use Rattle.std.specs.List.{list_any};
+ghost use Rattle.std.specs.List.{list_any, position};
+ghost use Rattle.std.specs.Cmp.Lexicographic.{pointwise};
 ghost use Rattle.row_base.specs.declared.row.Datum.TheVariants as datum;
-ghost use Rattle.row_base.specs.Schema.{first_after, is_named, repeats_name, is_wrong_place, schema_fault, IsSchema, is_of_kind, is_empty_text, datum_fault, first_datum_fault, row_fault, FitsSchema, settled_datum, settled};
+ghost use Rattle.row_base.specs.Schema.{first_after, is_named, repeats_name, is_wrong_place, schema_fault, IsSchema, column_place, is_partition_column, narrowed_number, is_of_kind, is_empty_text, datum_fault, first_datum_fault, row_fault, FitsSchema, settled_datum, settled};
 
 use crate::{Datum, Kind, NoMemory, Row, Text};
 use std::alloc::Global;
@@ -113,12 +114,185 @@ impl Schema {
         self.columns.as_slice()
     }
 
+    /// The place of the column of this name.
+    pub fn place_of(&self, name: &Text) -> Option<u32>
+        ensures { result ≡ column_place self.now name.now }
+    {
+        match place_named(self.columns(), name) {
+            Some(place) => Some(place as u32),
+            None => None,
+        }
+    }
+
     /// The places of the partition columns, in the order in which the table is partitioned.
     pub fn partition(&self) -> &[u32]
         ensures value { result.now ≡ self.now.partition }
         ensures valid { IsSchema self.now }
     {
         self.partition.as_slice()
+    }
+
+    /// Whether the column at this place is a partition column.
+    pub fn is_partition(&self, place: u32) -> bool
+        ensures { result ≡ is_partition_column self.now place }
+    {
+        self.partition.contains(&place)
+    }
+
+    /// The columns and the places of the partition columns, handed over.
+    pub fn into_parts(self) -> (Vec<Column>, Vec<u32>)
+        ensures columns { result.0.items ≡ self.columns }
+        ensures partition { result.1.items ≡ self.partition }
+    {
+        (self.columns, self.partition)
+    }
+
+    /// An equal schema. The bytes of its names are shared.
+    pub fn copy(&self, alloc: Global) -> Result<Schema, NoMemory>
+        ensures { IfOk result (λ s. s ≡ self.now) }
+    {
+        let columns = copy_columns(alloc, self.columns.as_slice())?;
+        let partition = Vec::from_slice(alloc, self.partition.as_slice())?;
+        Ok(Schema { columns, partition })
+    }
+
+    /// Whether a row fits: it has a datum for each column, which is of the column's kind, or null where the
+    /// column allows it, and in a partition column is not the empty text. Else the first column that is
+    /// wrong. It takes no memory.
+    pub fn fits(&self, row: &Row) -> Result<(), RowFault>
+        ensures fits { IsOk result ↔ FitsSchema self.now row.now }
+        ensures fault { MatchResult result (λ _. row_fault self.now row.now ≡ None) (λ f. row_fault self.now row.now ≡ Some f) }
+    {
+        match self.fault_of(row) {
+            Some(fault) => Err(fault),
+            None => Ok(()),
+        }
+    }
+
+    /// The row as its columns take it: each long in a column of integers that fits is an integer. Where
+    /// the row that comes of it does not fit, the row that came is handed back with the fault. It takes no
+    /// memory.
+    pub fn settle(&self, row: Row) -> Result<Row, Unsettled>
+        ensures ok { IfOk result (λ r. r ≡ settled self.now.columns row) }
+        ensures fits { IsOk result ↔ FitsSchema self.now (settled self.now.columns row) }
+        ensures back { IfErr result (λ u. u.row ≡ row) }
+        ensures fault { MatchResult result (λ _. row_fault self.now (settled self.now.columns row) ≡ None) (λ u. row_fault self.now (settled self.now.columns row) ≡ Some u.fault) }
+    {
+        if let Some(fault) = self.settled_fault(&row) {
+            return Err(Unsettled { row, fault });
+        }
+        let mut values = row.into_vec();
+        settle_values(self.columns(), &mut values);
+        Ok(Row::make(values))
+    }
+
+    /// The first fault of a row.
+    fn fault_of(&self, row: &Row) -> Option<RowFault>
+        ensures { result ≡ row_fault self.now row.now }
+    {
+        let (columns, values) = (self.columns(), row.as_slice());
+        if values.len() != columns.len() {
+            return Some(RowFault::Count);
+        }
+        first_wrong_datum(self.partition(), columns, values)
+    }
+
+    /// The first fault of a row once it is settled.
+    fn settled_fault(&self, row: &Row) -> Option<RowFault>
+        ensures { result ≡ row_fault self.now (settled self.now.columns row.now) }
+    {
+        let (columns, values) = (self.columns(), row.as_slice());
+        if values.len() != columns.len() {
+            return Some(RowFault::Count);
+        }
+        first_wrong_settled(self.partition(), columns, values)
+    }
+}
+
+/// A list of equal columns.
+fn copy_columns(alloc: Global, columns: &[Column]) -> Result<Vec<Column>, NoMemory>
+    ensures { IfOk result (λ v. v.items ≡ columns.now) }
+{
+    let mut copies = Vec::with_capacity(alloc, columns.len())?;
+    for column in columns {
+        copies.push(column.copy()?)?;
+    }
+    Ok(copies)
+}
+
+/// Whether a datum is of a kind.
+fn is_kind(kind: Kind, datum: &Datum) -> bool
+    ensures { result ≡ is_of_kind kind datum.now }
+{
+    match (kind, datum) {
+        (Kind::Long, Datum::Long(_)) => true,
+        (Kind::Integer, Datum::Integer(_)) => true,
+        (Kind::Boolean, Datum::Boolean(_)) => true,
+        (Kind::String, Datum::Text(_)) => true,
+        (Kind::Date, Datum::Date(_)) => true,
+        _ => false,
+    }
+}
+
+/// Whether a datum is the empty text.
+fn is_empty(datum: &Datum) -> bool
+    ensures { result ≡ is_empty_text datum.now }
+{
+    match datum {
+        Datum::Text(text) => text.as_str().is_empty(),
+        _ => false,
+    }
+}
+
+/// What is wrong with the datum of the column at this place.
+fn wrong_datum(partition: &[u32], place: u32, column: &Column, datum: &Datum) -> Option<RowFault>
+    ensures { result ≡ datum_fault partition.now place column.now datum.now }
+{
+    if let Datum::Null = datum {
+        return wrong_null(place, column.nullable);
+    }
+    if !is_kind(column.kind, datum) {
+        return Some(RowFault::Kind { column: place });
+    }
+    if is_empty(datum) && partition.contains(&place) {
+        return Some(RowFault::EmptyPartition { column: place });
+    }
+    None
+}
+
+/// What is wrong with a null at this place.
+fn wrong_null(place: u32, nullable: bool) -> Option<RowFault>
+    ensures { result ≡ (if nullable then None else Some (RowFault.Null place)) }
+{
+    if nullable {
+        None
+    } else {
+        Some(RowFault::Null { column: place })
+    }
+}
+
+/// What is wrong with the first column that is.
+fn first_wrong_datum(partition: &[u32], columns: &[Column], values: &[Datum]) -> Option<RowFault>
+    requires same { length values.now ≡ length columns.now }
+    requires few { length columns.now ≤ 64 }
+    ensures { result ≡ first_datum_fault partition.now 0 columns.now values.now }
+{
+    for (i, column) in columns.iter().enumerate() {
+        let fault = wrong_datum(partition, i as u32, column, &values[i]);
+        if fault.is_some() {
+            return fault;
+        }
+    }
+    None
+}
+
+/// The integer that a datum is in a column of integers, where it is a long that fits.
+fn narrowed(kind: Kind, datum: &Datum) -> Option<i32>
+    ensures { result ≡ narrowed_number kind datum.now }
+{
+    match (kind, datum) {
+        (Kind::Integer, Datum::Long(n)) => i32::try_from(*n).ok(),
+        _ => None,
     }
 }
 
@@ -143,6 +317,13 @@ fn has_name(columns: &[Column], name: &Text) -> bool
     ensures { result ≡ is_named columns.now name.now }
 {
     columns.iter().any(|column| column.name == *name)
+}
+
+/// The place of the column of this name.
+fn place_named(columns: &[Column], name: &Text) -> Option<usize>
+    ensures { result ≡ position (λ c. pointwise ◌==◌ c.name name.now) columns.now }
+{
+    columns.iter().position(|column| column.name == *name)
 }
 
 /// The first place of a name that stood before.
@@ -176,4 +357,48 @@ fn is_wrong(count: usize, before: &[u32], place: u32) -> bool
     ensures { result ≡ is_wrong_place count before.now place }
 {
     count <= place as usize || before.contains(&place) || before.len() + 1 == count
+}
+
+/// What is wrong with the datum of the column at this place once it is settled.
+fn wrong_settled(partition: &[u32], place: u32, column: &Column, datum: &Datum) -> Option<RowFault>
+    ensures { result ≡ datum_fault partition.now place column.now (settled_datum column.now.kind datum.now) }
+{
+    match narrowed(column.kind, datum) {
+        Some(_) => None,
+        None => wrong_datum(partition, place, column, datum),
+    }
+}
+
+/// What is wrong with the first column that is once the row is settled.
+fn first_wrong_settled(partition: &[u32], columns: &[Column], values: &[Datum]) -> Option<RowFault>
+    requires same { length values.now ≡ length columns.now }
+    requires few { length columns.now ≤ 64 }
+    ensures { result ≡ first_datum_fault partition.now 0 columns.now (settled columns.now values.now) }
+{
+    for (i, column) in columns.iter().enumerate() {
+        let fault = wrong_settled(partition, i as u32, column, &values[i]);
+        if fault.is_some() {
+            return fault;
+        }
+    }
+    None
+}
+
+/// Makes each datum what its column takes it as.
+fn settle_values(columns: &[Column], values: &mut [Datum])
+    requires { length values.old ≡ length columns.now }
+    ensures { values.new ≡ settled columns.now values.old }
+{
+    for (i, column) in columns.iter().enumerate() {
+        settle_datum(column.kind, &mut values[i]);
+    }
+}
+
+/// Makes a datum what a column of this kind takes it as.
+fn settle_datum(kind: Kind, datum: &mut Datum)
+    ensures { datum.new ≡ settled_datum kind datum.old }
+{
+    if let Some(n) = narrowed(kind, datum) {
+        *datum = Datum::Integer(n);
+    }
 }

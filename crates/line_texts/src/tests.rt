@@ -1,0 +1,70 @@
+use crate::{
+    TextFault, are_long_rows, read_add, read_columns, read_rows, write_add, write_columns,
+    write_rows,
+};
+use edge_api::Name;
+use row_base::{Datum, Row, Text};
+use std::alloc::Global;
+use std::test::Fail;
+
+#[test]
+fn columns_are_a_line(rt: HostRuntime) -> Result<(), Fail> {
+    let mut names = Vec::new(rt.alloc());
+    names.push(Text::make(rt.alloc(), "id")?)?;
+    names.push(Text::make(rt.alloc(), "v")?)?;
+    let text = write_columns(rt.alloc(), names.as_slice())?;
+    assert!(rt; text.as_slice() == b"columns id v\n".as_slice());
+    let read = read_columns(rt.alloc(), b"columns id v\n").expect(&rt, "it reads");
+    assert_eq!(rt; read.as_slice().len(), 2);
+    assert_eq!(rt; read.as_slice()[1].as_str(), "v");
+    Ok(())
+}
+
+#[test]
+fn a_path_is_a_line(rt: HostRuntime) -> Result<(), Fail> {
+    let path = Name::make(rt.alloc(), "part-00000.parquet")?;
+    let text = write_add(rt.alloc(), &path)?;
+    assert!(rt; text.as_slice() == b"add part-00000.parquet\n".as_slice());
+    let read = read_add(rt.alloc(), b"add part-00000.parquet\n").expect(&rt, "it reads");
+    assert_eq!(rt; read.as_str(), "part-00000.parquet");
+    Ok(())
+}
+
+#[test]
+fn a_row_is_a_line(rt: HostRuntime) -> Result<(), Fail> {
+    let mut data = Vec::new(rt.alloc());
+    data.push(Datum::Long(10))?;
+    data.push(Datum::Long(-9223372036854775808))?;
+    let mut rows = Vec::new(rt.alloc());
+    rows.push(Row::make(data))?;
+    assert!(rt; are_long_rows(rows.as_slice()));
+    let text = write_rows(rt.alloc(), rows.as_slice())?;
+    assert!(rt; text.as_slice() == b"10,-9223372036854775808\n".as_slice());
+    let read = read_rows(rt.alloc(), text.as_slice()).expect(&rt, "it reads");
+    assert_eq!(rt; read.as_slice().len(), 1);
+    assert_eq!(rt; read.as_slice()[0].as_slice().len(), 2);
+    Ok(())
+}
+
+fn bad_row(alloc: Global, text: &[u8]) -> Option<TextFault> {
+    read_rows(alloc, text).err()
+}
+
+#[test]
+fn bad_lines_are_named(rt: HostRuntime) -> Result<(), Fail> {
+    let alloc = rt.alloc();
+    assert!(rt; bad_row(alloc, b"").is_none());
+    assert_eq!(rt; bad_row(alloc, b"1\n02\n"), Some(TextFault::Line(2)));
+    assert_eq!(rt; bad_row(alloc, b"1\n-0\n"), Some(TextFault::Line(2)));
+    assert_eq!(rt; bad_row(alloc, b"1\n2"), Some(TextFault::Line(2)));
+    assert_eq!(rt;
+        bad_row(alloc, b"9223372036854775808\n"),
+        Some(TextFault::Line(1))
+    );
+    assert_eq!(rt;
+        read_columns(alloc, b"columns a\nx\n").err(),
+        Some(TextFault::Line(2))
+    );
+    assert_eq!(rt; read_add(alloc, b"").err(), Some(TextFault::Line(1)));
+    Ok(())
+}

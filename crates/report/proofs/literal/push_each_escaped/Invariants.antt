@@ -1,0 +1,8 @@
+-- The bytes so far are written.
+use Rattle.std.proofs.Common.{◌≡◌, ◌++◌, take}
+use Rattle.std.specs.List.{flat_map}
+use Rattle.report.specs.Literals.{escaped}
+use Rattle.report.proofs.literal.push_each_escaped.Given as goal
+
+abbrev pub invariant-loop-b : goal.invariant-loop-b
+invariant-loop-b l = l.out.items ≡ l.initial.out.items ++ flat_map escaped (take l.b-index l.text)
