@@ -1,0 +1,5 @@
+pub mod Words
+pub mod Quoted
+pub mod Text
+pub mod Tokens
+pub mod Reading
