@@ -1,0 +1,10 @@
+//! Statements over a table, and their replies.
+#![tactic(auto)]
+
+mod refusal;
+mod reply;
+mod statement;
+
+pub use refusal::{Clash, Feature, LogFaultKind, ObjectFault, Refusal};
+pub use reply::{CheckpointOutcome, Reply, SessionReplies};
+pub use statement::{Columns, Statement, TableSpec};

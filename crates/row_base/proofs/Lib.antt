@@ -1,0 +1,3 @@
+pub mod RowOrder
+pub mod FirstAfter
+pub mod SchemaLemmas

@@ -1,0 +1,23 @@
+//! The order of rows.
+ghost use Rattle.std.specs.Prelude.{◌≡◌};
+ghost use Rattle.std.specs.Cmp.{IsTotalOrder};
+ghost use Rattle.row_base.specs.RowOrder.{row_cmp, IsToldApart};
+
+use crate::Row;
+use std::cmp::Ordering;
+
+/// Compares two rows column by column from the left: null first, false before true, texts by their
+/// bytes, and data of different kinds in the order of `Datum`'s variants. Of two rows of which one
+/// begins the other, the shorter is less.
+pub fn cmp_rows(a: &Row, b: &Row) -> Ordering
+    ensures { result ≡ row_cmp a.now b.now }
+{
+    a.as_slice().cmp(b.as_slice())
+}
+
+/// The order of rows is total, and it tells every two rows apart.
+pub fn row_order_is_total()
+    ensures total { IsTotalOrder row_cmp }
+    ensures apart { IsToldApart row_cmp }
+{
+}
