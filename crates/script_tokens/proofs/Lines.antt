@@ -12,7 +12,8 @@ use Rattle.script_tokens.specs.declared.token.Token.TheVariants.{Word, Number, T
 use Rattle.script_tokens.specs.declared.fault.ParseError.{ParseError}
 use Rattle.script_tokens.specs.declared.fault.ParseError.TheVariants as errors
 use Rattle.script_tokens.specs.Words.{is_letter, is_word_byte, is_digit, gap, begins_digit, ends_value}
-use Rattle.script_tokens.specs.Quoted.{◌>>=◌, Fails, body, plain}
+use Rattle.script_tokens.specs.Gives.{◌>>=◌, Fails}
+use Rattle.script_tokens.specs.Quoted.{body, plain}
 use Rattle.script_tokens.specs.Tokens.{begins_letter, IsWord, IsDigits, symbol_text, is_sign, is_minus, SpellsToken, word, number, negative, text, symbol, SpellsTokens, nothing, space, token, SpellsLine}
 use Rattle.script_tokens.specs.Reading.{Taken, word_of, word_at, unsigned_value, negative_value, number_of, number_at, negative_at, text_at, symbol_at, mark_at, token_at, put, put_some, value_after, lex, line_tokens, starts_space}
 use Rattle.script_tokens.proofs.Runs.{some_is, bind_some, cond_some, guarded, and_true, or_false, Bool_tells, runs, run_is_run, begins_run, first_of_run, gap_no_word, gap_no_digit, letter_no_space, digit_no_space, digit_no_letter}

@@ -8,7 +8,7 @@ use Rattle.script_tokens.specs.declared.token.Token.TheVariants.{Word, Number, T
 use Rattle.script_tokens.specs.declared.token.Symbol.{Symbol as SymbolValue}
 use Rattle.script_tokens.specs.declared.token.Symbol.TheVariants.{Open, Close, Comma, Equal, NotEqual, Less, AtMost, Greater, AtLeast, Plus, Minus, Star, Dot}
 use Rattle.script_tokens.specs.Words.{is_letter, is_digit}
-use Rattle.script_tokens.specs.Quoted.{◌>>=◌}
+use Rattle.script_tokens.specs.Gives.{◌>>=◌}
 use Rattle.script_tokens.specs.Tokens.{symbol_text, goes_on, is_sign, is_minus}
 use Rattle.script_tokens.specs.Reading.{less_at, greater_at, single, symbol_at, mark_at, token_at, starts_space}
 use Rattle.script_tokens.proofs.Runs.{some_is, bind_some, cond_some, or_false}

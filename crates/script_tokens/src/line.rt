@@ -3,7 +3,7 @@ ghost use Rattle.std.specs.Prelude.{◌≡◌, ◌<◌, ◌≤◌, List, ℕ, So
 ghost use Rattle.std.specs.List.{prefix_len};
 ghost use Rattle.script_tokens.specs.Words.{begins_digit, is_word_byte};
 ghost use Rattle.script_tokens.specs.Tokens.{is_sign, SpellsLine};
-ghost use Rattle.script_tokens.specs.Quoted.{Gives};
+ghost use Rattle.script_tokens.specs.Gives.{Gives};
 ghost use Rattle.script_tokens.specs.Reading.{word_at, text_at, mark_at, token_at, lex, line_tokens, put_some, value_after, starts_space};
 ghost use Rattle.script_tokens.specs.declared.token.Token.{Token as AToken};
 

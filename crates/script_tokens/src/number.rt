@@ -3,7 +3,7 @@ ghost use Rattle.std.specs.Prelude.{◌≡◌, ◌≤◌, ◌<◌, ◌∷◌, �
 ghost use Rattle.std.specs.List.{prefix_len};
 ghost use Rattle.std.specs.Str.{all_ascii_digits};
 ghost use Rattle.script_tokens.specs.Words.{is_digit};
-ghost use Rattle.script_tokens.specs.Quoted.{Gives};
+ghost use Rattle.script_tokens.specs.Gives.{Gives};
 ghost use Rattle.script_tokens.specs.Reading.{unsigned_value, negative_value, number_at, negative_at};
 
 use crate::word::gap;

@@ -1,7 +1,8 @@
 //! Texts in quotes.
 ghost use Rattle.std.specs.Prelude.{◌≡◌, ◌<◌, ◌≤◌, ◌++◌, ◌∷◌, List, ℕ, Some, IfSome, length, false};
 ghost use Rattle.std.specs.List.{prefix_len};
-ghost use Rattle.script_tokens.specs.Quoted.{Gives, body, plain, hex, IsPiece, IsShorter, digit_of, high_of, is_plain, SpellsInside, begins_quote};
+ghost use Rattle.script_tokens.specs.Gives.{Gives};
+ghost use Rattle.script_tokens.specs.Quoted.{body, plain, hex, IsPiece, IsShorter, digit_of, high_of, is_plain, SpellsInside, begins_quote};
 ghost use Rattle.script_tokens.specs.Text.{InsideOf};
 
 use crate::{Bytes, ParseError};
