@@ -17,19 +17,12 @@ use std::alloc::Global;
 
 const WORD_LIMIT: usize = 64;
 
-fn word_len(bytes: &[u8]) -> usize
-    ensures is { result ≡ prefix_len is_word_byte bytes.now }
-    ensures within { result ≤ length bytes.now }
-{
-    word_run(bytes)
-}
-
 /// The word at the front.
 #[tactic(auto, unfolding(crate::specs::Reading::word_at))]
 fn word(alloc: Global, bytes: &[u8]) -> Result<(Token, &[u8]), ParseError>
     ensures { Gives (λ x. (x.0, x.1.now)) result (word_at bytes.now) }
 {
-    let len = word_len(bytes);
+    let len = word_run(bytes);
     let (word, rest) = bytes.split_at(len);
     if len > WORD_LIMIT || !gap(rest) {
         return Err(ParseError::Form);

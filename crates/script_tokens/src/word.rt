@@ -19,7 +19,8 @@ pub fn is_word_byte(b: u8) -> bool
 
 /// How many bytes of a word stand at the front.
 pub fn word_run(bytes: &[u8]) -> usize
-    ensures { result ≡ prefix_len is_word_byte bytes.now }
+    ensures is { result ≡ prefix_len is_word_byte bytes.now }
+    ensures within { result ≤ length bytes.now }
 {
     bytes.iter().take_while(|b| is_word_byte(**b)).count()
 }

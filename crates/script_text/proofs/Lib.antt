@@ -1,0 +1,5 @@
+pub mod Lines
+pub mod ItemLines
+pub mod Places
+pub mod Pieces
+pub mod Scripts
