@@ -3,7 +3,8 @@ ghost use Rattle.std.specs.Prelude.{◌≡◌, ◌≤◌, ◌++◌, length, map,
 ghost use Rattle.script_tokens.specs.Gives.{Gives};
 ghost use Rattle.script_text.specs.Places.{attempts_of, are_distinct, are_columns, long_column, table_of, begins_lower, are_lower, is_session_name, column_count, fit_table, start_entry, session_start, headed_entry, session_entry, entry_at, is_declared, is_new, is_placed, is_known, session_fits, row_count, statement_fits, items_fit, is_within, begun, named, with_session, with_statement, known_item, with_items, after_start, after_header, after_session, after_schedule, after};
 ghost use Rattle.script_text.specs.Scripts.{session_count};
-ghost use Rattle.std.specs.List.{list_all, flat_map};
+ghost use Rattle.std.specs.List.{list_all, list_any, flat_map};
+ghost use Rattle.std.specs.Str.{bytes_eq};
 
 use crate::items::{has_bytes, placed_items};
 use crate::line::{Line, read_one};
@@ -34,13 +35,19 @@ fn attempts_of(number: i64) -> Option<u32>
     }
 }
 
+fn is_among(name: &Text, others: &[Text]) -> bool
+    ensures { result ≡ list_any (λ m. bytes_eq m name.now) others.now }
+{
+    let name = name.as_str().as_bytes();
+    others.iter().any(|other| has_bytes(other, name))
+}
+
 fn are_distinct(names: &[Text]) -> bool
     ensures { result ≡ are_distinct names.now }
 {
     let mut rest = names;
     while let [first, tail @ ..] = rest {
-        let name = first.as_str().as_bytes();
-        if tail.iter().any(|other| has_bytes(other, name)) {
+        if is_among(first, tail) {
             return false;
         }
         rest = tail;
