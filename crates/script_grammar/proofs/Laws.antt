@@ -156,28 +156,28 @@ module _ {A : Type 0} (f : Tokens → Option (A × Tokens)) (g : A → Tokens) (
 
   pub after_law : (w : List ℕ) → Law {A = A} (λ ts. word_at w ts >>= λ r. f r) (λ v. Word w ∷ g v) fit
   after_law w = record {
-      takes = λ ts x e.
+    takes = λ ts x e.
         let a = bind_some (word_at w ts) (λ r. f r) x e in
         let one = law.takes a.0 x a.2 in
         (word_is w ts a.0 a.1 ∙ ap (λ (u : Tokens). Word w ∷ u) one.0, one.1);
-      again = λ v rest h. rw (word_again w (g v ++ rest)) (law.again v rest h);
-    }
+    again = λ v rest h. rw (word_again w (g v ++ rest)) (law.again v rest h);
+  }
 
   pub before_law : (w : List ℕ) → Law {A = A} (λ ts. f ts >>= λ x. word_at w x.1 >>= λ r. Some (x.0, r)) (λ v. g v ++ Word w ∷ []) (λ v rest. fit v (Word w ∷ rest))
   before_law w = record {
-      takes = λ ts x e.
+    takes = λ ts x e.
         let a = bind_some (f ts) (λ x. word_at w x.1 >>= λ r. Some (x.0, r)) x e in
         let b = bind_some (word_at w a.0.1) (λ r. Some (a.0.0, r)) x a.2 in
         let one = law.takes ts a.0 a.1 in
         let two : a.0.1 ≡ Word w ∷ b.0 = word_is w a.0.1 b.0 b.1 in
         let whole : ts ≡ (g a.0.0 ++ Word w ∷ []) ++ b.0 = one.0 ∙ ap (λ (u : Tokens). g a.0.0 ++ u) two ∙ sym (append_assoc (g a.0.0) (Word w ∷ []) b.0) in
         subst (λ (y : A × Tokens). (ts ≡ (g y.0 ++ Word w ∷ []) ++ y.1) × fit y.0 (Word w ∷ y.1)) (some_is (a.0.0, b.0) x b.2) (whole, subst (fit a.0.0) two one.1);
-      again = λ v rest h. rw (append_assoc (g v) (Word w ∷ []) rest, law.again v (Word w ∷ rest) h, word_again w rest) refl;
-    }
+    again = λ v rest h. rw (append_assoc (g v) (Word w ∷ []) rest, law.again v (Word w ∷ rest) h, word_again w rest) refl;
+  }
 
   pub parens_law : Law {A = A} (λ ts. open_at ts >>= λ r. f r >>= λ x. close_at x.1 >>= λ q. Some (x.0, q)) (λ v. Symbol Open ∷ (g v ++ Symbol Close ∷ [])) (λ v rest. fit v (Symbol Close ∷ rest))
   parens_law = record {
-      takes = λ ts x e.
+    takes = λ ts x e.
         let o = bind_some (open_at ts) (λ r. f r >>= λ x. close_at x.1 >>= λ q. Some (x.0, q)) x e in
         let a = bind_some (f o.0) (λ x. close_at x.1 >>= λ q. Some (x.0, q)) x o.2 in
         let b = bind_some (close_at a.0.1) (λ r. Some (a.0.0, r)) x a.2 in
@@ -186,8 +186,8 @@ module _ {A : Type 0} (f : Tokens → Option (A × Tokens)) (g : A → Tokens) (
         let inner : o.0 ≡ (g a.0.0 ++ Symbol Close ∷ []) ++ b.0 = one.0 ∙ ap (λ (u : Tokens). g a.0.0 ++ u) two ∙ sym (append_assoc (g a.0.0) (Symbol Close ∷ []) b.0) in
         let whole : ts ≡ Symbol Open ∷ ((g a.0.0 ++ Symbol Close ∷ []) ++ b.0) = open_is ts o.0 o.1 ∙ ap (λ (u : Tokens). Symbol Open ∷ u) inner in
         subst (λ (y : A × Tokens). (ts ≡ Symbol Open ∷ ((g y.0 ++ Symbol Close ∷ []) ++ y.1)) × fit y.0 (Symbol Close ∷ y.1)) (some_is (a.0.0, b.0) x b.2) (whole, subst (fit a.0.0) two one.1);
-      again = λ v rest h. rw (append_assoc (g v) (Symbol Close ∷ []) rest, law.again v (Symbol Close ∷ rest) h) refl;
-    }
+    again = λ v rest h. rw (append_assoc (g v) (Symbol Close ∷ []) rest, law.again v (Symbol Close ∷ rest) h) refl;
+  }
 
   pub many_law : Law {A = List A} (many_at f) (separated g) (FitsMany g fit)
   many_law = record { takes = many_takes; again = many_again }
@@ -195,15 +195,15 @@ module _ {A : Type 0} (f : Tokens → Option (A × Tokens)) (g : A → Tokens) (
 module _ {A : Type 0} (f : Tokens → Option (A × Tokens)) (g : A → Tokens) (fit : A → Tokens → Type 0) (law : Law f g fit) {B : Type 0} (f2 : Tokens → Option (B × Tokens)) (g2 : B → Tokens) (fit2 : B → Tokens → Type 0) (law2 : Law f2 g2 fit2) where
   pub both_law : Law {A = A × B} (λ ts. f ts >>= λ x. f2 x.1 >>= λ y. Some ((x.0, y.0), y.1)) (λ v. g v.0 ++ g2 v.1) (λ v rest. fit v.0 (g2 v.1 ++ rest) × fit2 v.1 rest)
   both_law = record {
-      takes = λ ts x e.
+    takes = λ ts x e.
         let a = bind_some (f ts) (λ x. f2 x.1 >>= λ y. Some ((x.0, y.0), y.1)) x e in
         let b = bind_some (f2 a.0.1) (λ y. Some ((a.0.0, y.0), y.1)) x a.2 in
         let one = law.takes ts a.0 a.1 in
         let two = law2.takes a.0.1 b.0 b.1 in
         let whole : ts ≡ (g a.0.0 ++ g2 b.0.0) ++ b.0.1 = one.0 ∙ ap (λ (u : Tokens). g a.0.0 ++ u) two.0 ∙ sym (append_assoc (g a.0.0) (g2 b.0.0) b.0.1) in
         subst (λ (y : (A × B) × Tokens). (ts ≡ (g y.0.0 ++ g2 y.0.1) ++ y.1) × (fit y.0.0 (g2 y.0.1 ++ y.1) × fit2 y.0.1 y.1)) (some_is ((a.0.0, b.0.0), b.0.1) x b.2) (whole, (subst (fit a.0.0) two.0 one.1, two.1));
-      again = λ v rest h. rw (append_assoc (g v.0) (g2 v.1) rest, law.again v.0 (g2 v.1 ++ rest) h.0, law2.again v.1 rest h.1) refl;
-    }
+    again = λ v rest h. rw (append_assoc (g v.0) (g2 v.1) rest, law.again v.0 (g2 v.1 ++ rest) h.0, law2.again v.1 rest h.1) refl;
+  }
 
 takes_maybe : (w : List ℕ) (s : Shape) (law : Law (read s) (spell s) (Fits s)) (ts : Tokens) (x : Option (Value s) × Tokens) → read (maybe w s) ts ≡ Some x → (ts ≡ spell (maybe w s) x.0 ++ x.1) × Fits (maybe w s) x.0 x.1
 takes_maybe w s law ts x e =

@@ -27,9 +27,9 @@ module _ {A : Type 0} (f : Tokens → Option (A × Tokens)) (shrinks : (ts : Tok
   pub begins : (ts : Tokens) (v : A) (rest : Tokens) → f ts ≡ Some (v, rest) → Led f ts (v ∷ []) rest
   unfolding many_at
   begins ts v rest h = record {
-      reads = let one : length ts + 1 - 1 ≡ length ts = omega arith in rw (one, h) refl;
-      room = omega (arith, shrinks ts (v, rest) h);
-    }
+    reads = let one : length ts + 1 - 1 ≡ length ts = omega arith in rw (one, h) refl;
+    room = omega (arith, shrinks ts (v, rest) h);
+  }
 
   pub goes_on : (ts : Tokens) (items : List A) (rest tail : Tokens) (v : A) (after : Tokens) → comma_at rest ≡ Some tail → f tail ≡ Some (v, after) → Led f ts items rest → Led f ts (items ++ v ∷ []) after
   unfolding more_at
@@ -38,7 +38,7 @@ module _ {A : Type 0} (f : Tokens → Option (A × Tokens)) (shrinks : (ts : Tok
       let grown : length (items ++ v ∷ []) ≡ length items + 1 = length-append items (v ∷ []) in
       let k : length ts + 1 - length items ≡ suc (length ts + 1 - length (items ++ v ∷ [])) = omega (arith, led.room) in
       let one : with_front items (more_at f (length ts + 1 - length items) rest) ≡ with_front (items ++ v ∷ []) (more_at f (length ts + 1 - length (items ++ v ∷ [])) after) =
-        rw (k, c, h) (regroup items v (more_at f (length ts + 1 - length (items ++ v ∷ [])) after)) in
+      rw (k, c, h) (regroup items v (more_at f (length ts + 1 - length (items ++ v ∷ [])) after)) in
       record { reads = sym one ∙ led.reads; room = omega (arith, led.room, shrinks tail (v, after) h) }
 
   pub ends : (e : ParseError) (ts : Tokens) (items : List A) (rest tail : Tokens) → comma_at rest ≡ Some tail → Fails e (f tail) → Led f ts items rest → Fails e (many_at f ts)

@@ -11,17 +11,17 @@ use Rattle.row_base.specs.declared.row.Datum.TheVariants as datum
 use Rattle.script_grammar.specs.Names.{is_name}
 
 pub data Shape : Type 0 where
-  nothing : Shape                             -- no token
+  nothing : Shape  -- no token
   a_number : Shape
   a_name : Shape
-  a_literal : Shape                           -- a datum
-  after : List ℕ → Shape → Shape              -- a word, then the shape
-  before : Shape → List ℕ → Shape             -- the shape, then a word
-  parens : Shape → Shape                      -- the shape between ( and )
-  both : Shape → Shape → Shape                -- one, then the other
-  listed : Shape → Shape                      -- one or more, with commas between them
-  maybe : List ℕ → Shape → Shape              -- nothing, or a word and the shape
-  choice : List ℕ → Shape → Shape → Shape     -- a word and the first shape, or the second shape
+  a_literal : Shape  -- a datum
+  after : List ℕ → Shape → Shape  -- a word, then the shape
+  before : Shape → List ℕ → Shape  -- the shape, then a word
+  parens : Shape → Shape  -- the shape between ( and )
+  both : Shape → Shape → Shape  -- one, then the other
+  listed : Shape → Shape  -- one or more, with commas between them
+  maybe : List ℕ → Shape → Shape  -- nothing, or a word and the shape
+  choice : List ℕ → Shape → Shape → Shape  -- a word and the first shape, or the second shape
 
 -- what a shape stands for
 abbrev pub Value : Shape → Type 0

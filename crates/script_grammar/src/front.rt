@@ -98,5 +98,4 @@ pub fn take_name(alloc: Global, tokens: &[Token]) -> Result<(Text, &[Token]), Pa
 pub fn shapes_are_spelled()
     ensures found { (s : Shape) (ts : List AToken) (v : Value s) → whole s ts ≡ Some v → Spells s ts v [] }
     ensures only { (s : Shape) (ts : List AToken) (v : Value s) → Spells s ts v [] → whole s ts ≡ Some v }
-{
-}
+{}

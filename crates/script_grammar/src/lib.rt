@@ -5,5 +5,8 @@
 mod front;
 mod name;
 
-pub use front::{find_comma, find_word, shapes_are_spelled, take_close, take_literal, take_name, take_number, take_open, take_word};
+pub use front::{
+    find_comma, find_word, shapes_are_spelled, take_close, take_literal, take_name, take_number,
+    take_open, take_word,
+};
 pub use name::{is_name, text_of_name};

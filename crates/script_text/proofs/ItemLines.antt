@@ -90,12 +90,12 @@ pub record Front (bs : List ℕ) (x : NamedItem) (rest : List ℕ) : Type 0 wher
 form_is : (bs : List ℕ) → bs ≡ form_text (form_at bs).0 ++ (form_at bs).1
 form_is [] = refl
 form_is (b ∷ bs) = elim (eqb_tells b 33) [
-      | inl h ↦ rw h.0 (ap (λ (c : ℕ). c ∷ bs) h.1)
-      | inr h ↦ rw h.0 (elim (eqb_tells b 64) [
-          | inl k ↦ rw k.0 (ap (λ (c : ℕ). c ∷ bs) k.1)
-          | inr k ↦ rw k.0 refl
-        ])
-    ]
+  | inl h ↦ rw h.0 (ap (λ (c : ℕ). c ∷ bs) h.1)
+  | inr h ↦ rw h.0 (elim (eqb_tells b 64) [
+    | inl k ↦ rw k.0 (ap (λ (c : ℕ). c ∷ bs) k.1)
+    | inr k ↦ rw k.0 refl
+  ])
+]
 
 front_of : (n : ℕ) (bs : List ℕ) (x : NamedItem × List ℕ) → item_of n bs ≡ Some x → Front bs x.0 x.1
 front_of n bs x h =

@@ -2,4 +2,5 @@ pub mod Lines
 pub mod ItemLines
 pub mod Places
 pub mod Pieces
+pub mod Fits
 pub mod Scripts

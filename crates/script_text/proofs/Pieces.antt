@@ -17,9 +17,9 @@ pub cut : (bs : List ℕ) → 0 < length bs → pieces bs ≡ take (prefix_len i
 unfolding pieces
 cut [] lt = absurd (omega arith)
 cut (b ∷ bs) lt = elim (eqb_tells b 10) [
-      | inl h ↦ rw h.0 refl
-      | inr h ↦ rw (h.0, one_add (prefix_len is_inside bs)) (inside b bs (cut bs))
-    ]
+  | inl h ↦ rw h.0 refl
+  | inr h ↦ rw (h.0, one_add (prefix_len is_inside bs)) (inside b bs (cut bs))
+]
 
 pub no_pieces : (bs : List ℕ) → length bs ≡ 0 → pieces bs ≡ []
 unfolding pieces

@@ -14,13 +14,15 @@ use Rattle.script_text.specs.declared.place.Place.TheVariants.{Start, Headed, Se
 use Rattle.script_text.specs.declared.place.Entry.{Entry}
 use Rattle.script_text.specs.Places.{Stands, entry_at, is_known, is_within, after, with_session}
 use Rattle.script_text.specs.Scripts.{pieces, is_passed, Takes, passed, entered, Follows, here, next, lacking, Refuses, utf8, form, session, limit, script_of, SpellsScript, FailsFrom, refused, no_header, FailsScript, judged, judged_some, judge, finished, onward, script_from, FaultIs, GivesScript, Judges}
+use Rattle.script_text.specs.Fit.{IsFit}
 use Rattle.script_text.proofs.Places.{entry_is, entry_again}
+use Rattle.script_text.proofs.Fits.{spelled_fit}
 
 pub no_utf8 : (l : List ℕ) → (IsUtf8 l → ⊥) → is_utf8 l ≡ false
 no_utf8 l h = elim (Bool_tells (is_utf8 l)) [
-      | inl u ↦ absurd (h (IsUtf8-from_is_utf8 l u))
-      | inr u ↦ u
-    ]
+  | inl u ↦ absurd (h (IsUtf8-from_is_utf8 l u))
+  | inr u ↦ u
+]
 
 utf8_not : (l : List ℕ) → is_utf8 l ≡ false → IsUtf8 l → ⊥
 utf8_not l h u = let k = is_utf8-from_IsUtf8 l u in cc
@@ -46,12 +48,12 @@ Verdict p l (Err k) = Refuses p l k
 
 entry_verdict : (p : Place) (l : List ℕ) (e : Entry) → IsUtf8 l → is_passed l ≡ false → Stands p l e → Verdict p l (judged p e)
 entry_verdict p l e u k s = elim (Bool_tells (is_known p e)) [
-      | inl n ↦ elim (Bool_tells (is_within p e)) [
-          | inl w ↦ rw (n, w) (entered p l e u k s n w)
-          | inr w ↦ rw (n, w) (limit p l e u k s n w)
-        ]
-      | inr n ↦ rw n (session p l e u k s n)
-    ]
+  | inl n ↦ elim (Bool_tells (is_within p e)) [
+    | inl w ↦ rw (n, w) (entered p l e u k s n w)
+    | inr w ↦ rw (n, w) (limit p l e u k s n w)
+  ]
+  | inr n ↦ rw n (session p l e u k s n)
+]
 
 other_verdict : (p : Place) (l : List ℕ) (o : Option Entry) → IsUtf8 l → is_passed l ≡ false → entry_at p l ≡ o → Verdict p l (judged_some p o)
 other_verdict p l None u k h = form p l u k (λ e s. let a = entry_again p l e s in cc)
@@ -59,12 +61,12 @@ other_verdict p l (Some e) u k h = entry_verdict p l e u k (entry_is p l e h)
 
 pub verdict : (p : Place) (l : List ℕ) → Verdict p l (judge p l)
 verdict p l = elim (Bool_tells (is_utf8 l)) [
-      | inl u ↦ elim (Bool_tells (is_passed l)) [
-          | inl k ↦ subst (Verdict p l) (sym (judge_passed p l u k)) (passed p l (IsUtf8-from_is_utf8 l u) k)
-          | inr k ↦ subst (Verdict p l) (sym (judge_other p l (entry_at p l) u k refl)) (other_verdict p l (entry_at p l) (IsUtf8-from_is_utf8 l u) k refl)
-        ]
-      | inr u ↦ subst (Verdict p l) (sym (judge_bytes p l u)) (utf8 p l (utf8_not l u))
-    ]
+  | inl u ↦ elim (Bool_tells (is_passed l)) [
+    | inl k ↦ subst (Verdict p l) (sym (judge_passed p l u k)) (passed p l (IsUtf8-from_is_utf8 l u) k)
+    | inr k ↦ subst (Verdict p l) (sym (judge_other p l (entry_at p l) u k refl)) (other_verdict p l (entry_at p l) (IsUtf8-from_is_utf8 l u) k refl)
+  ]
+  | inr u ↦ subst (Verdict p l) (sym (judge_bytes p l u)) (utf8 p l (utf8_not l u))
+]
 
 judged_ok : (p : Place) (e : Entry) → is_known p e ≡ true → is_within p e ≡ true → judged p e ≡ Ok (after p e)
 judged_ok p e n w = rw (n, w) refl
@@ -210,6 +212,10 @@ pub found : (bytes : List ℕ) (r : Result Script ScriptFault) → GivesScript r
 found bytes (Ok s) h = script_found bytes s h
 found bytes (Err f) h = tt
 
+pub fit : (bytes : List ℕ) (r : Result Script ScriptFault) → GivesScript r (script_from 1 (Start None) (pieces bytes)) → IfOk r IsFit
+fit bytes (Ok s) h = spelled_fit bytes s (script_found bytes s h)
+fit bytes (Err f) h = tt
+
 abbrev OutOfMemory : ScriptFault → Type 0
 OutOfMemory f = f.kind ≡ kinds.NoMemory
 
@@ -236,9 +242,9 @@ fault_gives f kinds.NoMemory x h = inl refl
 pub bad_line : (bytes : List ℕ) (r : Result Script ScriptFault) → GivesScript r (script_from 1 (Start None) (pieces bytes)) → IfErr r (λ f. (f.kind ≡ kinds.NoMemory) ⊎ FailsScript bytes f.line f.kind)
 bad_line bytes (Ok s) h = tt
 bad_line bytes (Err f) h = elim (fault_gives f f.kind _ h) [
-      | inl m ↦ inl m
-      | inr e ↦ inr (fails 1 (Start None) (pieces bytes) f.line f.kind e)
-    ]
+  | inl m ↦ inl m
+  | inr e ↦ inr (fails 1 (Start None) (pieces bytes) f.line f.kind e)
+]
 
 same_fault : (f : ScriptFault) (n : ℕ) (k : ScriptFaultKind) (x : Result Script (ℕ × ScriptFaultKind)) → x ≡ Err (f.line, f.kind) → x ≡ Err (n, k) → (f.line ≡ n) × (f.kind ≡ k)
 same_fault f n k x e h =
@@ -248,6 +254,6 @@ same_fault f n k x e h =
 pub least : (bytes : List ℕ) (r : Result Script ScriptFault) → GivesScript r (script_from 1 (Start None) (pieces bytes)) → (n : ℕ) (k : ScriptFaultKind) → FailsScript bytes n k → MatchResult r (λ _. ⊥) (λ f. (f.kind ≡ kinds.NoMemory) ⊎ ((f.line ≡ n) × (f.kind ≡ k)))
 least bytes (Ok s) h n k b = let e = fails_again 1 (Start None) (pieces bytes) n k b in cc
 least bytes (Err f) h n k b = elim (fault_gives f f.kind _ h) [
-      | inl m ↦ inl m
-      | inr e ↦ inr (same_fault f n k _ e (fails_again 1 (Start None) (pieces bytes) n k b))
-    ]
+  | inl m ↦ inl m
+  | inr e ↦ inr (same_fault f n k _ e (fails_again 1 (Start None) (pieces bytes) n k b))
+]

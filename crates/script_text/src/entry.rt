@@ -17,12 +17,19 @@ use script_tokens::ParseError;
 use std::alloc::Global;
 
 const COLUMN_LIMIT: usize = 64;
+
 const ATTEMPTS_LIMIT: i64 = 1_000_000;
+
 const SESSION_NAME_LIMIT: usize = 16;
+
 const SESSION_LIMIT: usize = 64;
+
 const STATEMENT_LIMIT: usize = 4_096;
+
 const ROW_LIMIT: usize = 65_536;
+
 const ITEM_LIMIT: usize = 1_048_576;
+
 const ATTEMPTS: u32 = 1_000;
 
 fn attempts_of(number: i64) -> Option<u32>
@@ -405,7 +412,12 @@ fn after_header(alloc: Global, script: Script, entry: Entry) -> Place
     }
 }
 
-fn after_session(alloc: Global, script: Script, current: SessionScript, entry: Entry) -> Result<Place, ParseError>
+fn after_session(
+    alloc: Global,
+    script: Script,
+    current: SessionScript,
+    entry: Entry,
+) -> Result<Place, ParseError>
     ensures ok { IfOk result (λ p. p ≡ after_session script current entry) }
     ensures err { IfErr result (λ e. e ≡ ParseError.NoMemory) }
 {

@@ -113,7 +113,11 @@ fn next<'a>(sessions: &[SessionScript], bytes: &'a [u8]) -> Option<(Option<Place
 }
 
 /// The items of a line, each with the place of its session if there is one of its name.
-pub fn placed_items(alloc: Global, sessions: &[SessionScript], line: &[u8]) -> Result<PlacedItems, ParseError>
+pub fn placed_items(
+    alloc: Global,
+    sessions: &[SessionScript],
+    line: &[u8],
+) -> Result<PlacedItems, ParseError>
     requires { length sessions.now ≤ 64 }
     ensures { Gives (λ x. x) result (placed_from sessions.now line.now) }
 {

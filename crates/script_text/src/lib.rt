@@ -7,6 +7,8 @@ mod line;
 mod parse;
 mod place;
 mod script;
+#[cfg(test)]
+mod tests;
 
 pub use parse::parse_script;
 pub use script::{

@@ -3,6 +3,7 @@ ghost use Rattle.std.specs.Prelude.{◌≡◌, ◌<◌, ◌≤◌, ◌^◌, ◌+
 ghost use Rattle.std.specs.List.{prefix_len};
 ghost use Rattle.std.specs.Str.{is_utf8};
 ghost use Rattle.script_text.specs.Scripts.{pieces, is_passed, is_inside, judge, judged, lacking, finished, script_from, session_count, FaultIs, GivesScript, SpellsScript, FailsScript, Judges};
+ghost use Rattle.script_text.specs.Fit.{IsFit};
 ghost use Rattle.script_text.specs.declared.place.Place.TheVariants as places;
 ghost use Rattle.script_text.specs.declared.script.Script.{Script as AScript};
 ghost use Rattle.script_text.specs.declared.script.ScriptFaultKind.{ScriptFaultKind as AKind};
@@ -166,6 +167,8 @@ pub fn parse_script(alloc: Global, bytes: &[u8]) -> Result<Script, ScriptFault>
     requires { length bytes.now ≤ 16777216 }
     // What is read is what the bytes spell.
     ensures found { IfOk result (SpellsScript bytes.now) }
+    // It keeps all limits.
+    ensures fit { IfOk result IsFit }
     // What the bytes spell is read, unless memory runs out.
     ensures only { (s : AScript) → SpellsScript bytes.now s → MatchResult result (λ r. r ≡ s) (λ f. f.kind ≡ ScriptFaultKind.NoMemory) }
     // The fault that is named is that of the least bad line.

@@ -107,8 +107,8 @@ number_again value (d ∷ ds) rest h lt g =
       some = omega arith;
       no_space = digit_no_space d digit;
       at = cond_false (is_letter d) _ _ (digit_no_letter d digit) ∙ cond_true (is_digit d) (number_at (d ∷ (ds ++ rest))) _ digit
-        ∙ ap (λ (k : ℕ). number_of unsigned_value k (d ∷ (ds ++ rest))) n
-        ∙ number_of_is unsigned_value (length (d ∷ ds)) (d ∷ ds) rest (pos (digits_value 10 (d ∷ ds))) refl (unsigned_is (d ∷ ds) lt) g;
+          ∙ ap (λ (k : ℕ). number_of unsigned_value k (d ∷ (ds ++ rest))) n
+          ∙ number_of_is unsigned_value (length (d ∷ ds)) (d ∷ ds) rest (pos (digits_value 10 (d ∷ ds))) refl (unsigned_is (d ∷ ds) lt) g;
     }
 
 begins_with : (ds rest : List ℕ) → IsDigits ds → begins_digit (ds ++ rest) ≡ true
@@ -123,8 +123,8 @@ negative_again ds rest h le g =
       some = omega arith;
       no_space = refl;
       at = cond_true (begins_digit (ds ++ rest)) (negative_at (ds ++ rest)) (mark_at (45 ∷ (ds ++ rest))) (begins_with ds rest h)
-        ∙ ap (λ (k : ℕ). number_of negative_value k (ds ++ rest)) n
-        ∙ number_of_is negative_value (length ds) ds rest (neg_ℤ (pos (digits_value 10 ds))) refl (negative_is ds le) g;
+          ∙ ap (λ (k : ℕ). number_of negative_value k (ds ++ rest)) n
+          ∙ number_of_is negative_value (length ds) ds rest (neg_ℤ (pos (digits_value 10 ds))) refl (negative_is ds le) g;
     }
 
 text_read : (t inner rest : List ℕ) → body plain (inner ++ 39 ∷ rest) ≡ Some (t, rest) → gap rest ≡ true → text_at ((inner ++ 39 ∷ []) ++ rest) ≡ Some (Text t, rest)
@@ -284,9 +284,9 @@ front_mark value b bs x m h =
     let a = bind_some (symbol_at (b ∷ bs)) (λ y. Some (Symbol y.0, y.1)) x h in
     let l = symbol_is (b ∷ bs) a.0 a.1 in
     let no : is_minus a.0.0 ≡ true → is_sign value a.0.1 ≡ false = λ k.
-      let at = is_minus_starts a.0.0 a.0.1 b bs l.parts k in
-      let e : (45 == 45 && is_sign value a.0.1) ≡ false = subst (λ (u : List ℕ). (45 == 45 && is_sign value u) ≡ false) at.1 (subst (λ (c : ℕ). (c == 45 && is_sign value bs) ≡ false) at.0 m) in
-      e in
+    let at = is_minus_starts a.0.0 a.0.1 b bs l.parts k in
+    let e : (45 == 45 && is_sign value a.0.1) ≡ false = subst (λ (u : List ℕ). (45 == 45 && is_sign value u) ≡ false) at.1 (subst (λ (c : ℕ). (c == 45 && is_sign value bs) ≡ false) at.0 m) in
+    e in
     subst (λ (y : Taken). Front value (b ∷ bs) y.0 y.1) (some_is (Symbol a.0.0, a.0.1) x a.2) (record {
       front = symbol_text a.0.0;
       some = (symbol_starts a.0.0 a.0.1).1;
@@ -301,17 +301,17 @@ front value (b ∷ bs) x h =
     elim (cond_some (is_letter b) (word_at (b ∷ bs)) _ x h) [
       | inl k ↦ front_word value b bs x k.0 k.1
       | inr h ↦ elim (cond_some (is_digit b) (number_at (b ∷ bs)) _ x h.1) [
-          | inl k ↦ front_number value b bs x k.0 k.1
-          | inr h ↦ elim (cond_some (b == 39) (text_at bs) _ x h.1) [
-              | inl k ↦ subst (λ (c : ℕ). Front value (c ∷ bs) x.0 x.1) (sym (eqb-true _ _ k.0)) (front_text value bs x k.1)
-              | inr h ↦ elim (cond_some (b == 45 && is_sign value bs) (negative_at bs) (mark_at (b ∷ bs)) x h.1) [
-                  | inl k ↦
-                      let s = and_true (b == 45) (is_sign value bs) k.0 in
-                      subst (λ (c : ℕ). Front value (c ∷ bs) x.0 x.1) (sym (eqb-true _ _ s.0)) (signed_front value bs x s.1 k.1)
-                  | inr k ↦ front_mark value b bs x k.0 k.1
-                ]
-            ]
+        | inl k ↦ front_number value b bs x k.0 k.1
+        | inr h ↦ elim (cond_some (b == 39) (text_at bs) _ x h.1) [
+          | inl k ↦ subst (λ (c : ℕ). Front value (c ∷ bs) x.0 x.1) (sym (eqb-true _ _ k.0)) (front_text value bs x k.1)
+          | inr h ↦ elim (cond_some (b == 45 && is_sign value bs) (negative_at bs) (mark_at (b ∷ bs)) x h.1) [
+            | inl k ↦
+                let s = and_true (b == 45) (is_sign value bs) k.0 in
+                subst (λ (c : ℕ). Front value (c ∷ bs) x.0 x.1) (sym (eqb-true _ _ s.0)) (signed_front value bs x s.1 k.1)
+            | inr k ↦ front_mark value b bs x k.0 k.1
+          ]
         ]
+      ]
     ]
 
 -- the token at the front leaves fewer bytes

@@ -58,9 +58,9 @@ first_of_run p b w h = (cond_suc (p b) (prefix_len p w) (length w) h).0
 pub run_is_run : (p : ℕ → Bool) (bs : List ℕ) → prefix_len p (take (prefix_len p bs) bs) ≡ length (take (prefix_len p bs) bs)
 run_is_run p [] = refl
 run_is_run p (b ∷ bs) = elim (Bool_tells (p b)) [
-      | inl h ↦ rw (h, one_add (prefix_len p bs)) (rw h (omega (arith, run_is_run p bs)))
-      | inr h ↦ rw h refl
-    ]
+  | inl h ↦ rw (h, one_add (prefix_len p bs)) (rw h (omega (arith, run_is_run p bs)))
+  | inr h ↦ rw h refl
+]
 
 pub begins_run : (p : ℕ → Bool) (b : ℕ) (bs : List ℕ) → p b ≡ true → 0 < prefix_len p (b ∷ bs)
 begins_run p b bs h = rw h (omega arith)

@@ -85,27 +85,27 @@ single_is b bs s h =
     elim (cond_some (b == 40) (Some Open) _ s h) [
       | inl k ↦ one 40 b bs Open s k.0 refl (λ rest. refl) k.1
       | inr h ↦ elim (cond_some (b == 41) (Some Close) _ s h.1) [
-          | inl k ↦ one 41 b bs Close s k.0 refl (λ rest. refl) k.1
-          | inr h ↦ elim (cond_some (b == 44) (Some Comma) _ s h.1) [
-              | inl k ↦ one 44 b bs Comma s k.0 refl (λ rest. refl) k.1
-              | inr h ↦ elim (cond_some (b == 61) (Some Equal) _ s h.1) [
-                  | inl k ↦ one 61 b bs Equal s k.0 refl (λ rest. refl) k.1
-                  | inr h ↦ elim (cond_some (b == 43) (Some Plus) _ s h.1) [
-                      | inl k ↦ one 43 b bs Plus s k.0 refl (λ rest. refl) k.1
-                      | inr h ↦ elim (cond_some (b == 45) (Some Minus) _ s h.1) [
-                          | inl k ↦ one 45 b bs Minus s k.0 refl (λ rest. refl) k.1
-                          | inr h ↦ elim (cond_some (b == 42) (Some Star) _ s h.1) [
-                              | inl k ↦ one 42 b bs Star s k.0 refl (λ rest. refl) k.1
-                              | inr h ↦ elim (cond_some (b == 46) (Some Dot) None s h.1) [
-                                  | inl k ↦ one 46 b bs Dot s k.0 refl (λ rest. refl) k.1
-                                  | inr h ↦ absurd (let k = h.1 in cc)
-                                ]
-                            ]
-                        ]
-                    ]
+        | inl k ↦ one 41 b bs Close s k.0 refl (λ rest. refl) k.1
+        | inr h ↦ elim (cond_some (b == 44) (Some Comma) _ s h.1) [
+          | inl k ↦ one 44 b bs Comma s k.0 refl (λ rest. refl) k.1
+          | inr h ↦ elim (cond_some (b == 61) (Some Equal) _ s h.1) [
+            | inl k ↦ one 61 b bs Equal s k.0 refl (λ rest. refl) k.1
+            | inr h ↦ elim (cond_some (b == 43) (Some Plus) _ s h.1) [
+              | inl k ↦ one 43 b bs Plus s k.0 refl (λ rest. refl) k.1
+              | inr h ↦ elim (cond_some (b == 45) (Some Minus) _ s h.1) [
+                | inl k ↦ one 45 b bs Minus s k.0 refl (λ rest. refl) k.1
+                | inr h ↦ elim (cond_some (b == 42) (Some Star) _ s h.1) [
+                  | inl k ↦ one 42 b bs Star s k.0 refl (λ rest. refl) k.1
+                  | inr h ↦ elim (cond_some (b == 46) (Some Dot) None s h.1) [
+                    | inl k ↦ one 46 b bs Dot s k.0 refl (λ rest. refl) k.1
+                    | inr h ↦ absurd (let k = h.1 in cc)
+                  ]
                 ]
+              ]
             ]
+          ]
         ]
+      ]
     ]
 
 pub symbol_is : (bs : List ℕ) (x : SymbolValue × List ℕ) → symbol_at bs ≡ Some x → Longest bs x.0 x.1
@@ -115,11 +115,11 @@ symbol_is (b ∷ bs) x h =
     elim (cond_some (b == 60) (Some (less_at bs)) _ x h) [
       | inl k ↦ subst (λ (c : ℕ). Longest (c ∷ bs) x.0 x.1) (sym (eqb-true _ _ k.0)) (longest_at 60 bs (less_at bs) x (less_is bs) k.1)
       | inr h ↦ elim (cond_some (b == 62) (Some (greater_at bs)) _ x h.1) [
-          | inl k ↦ subst (λ (c : ℕ). Longest (c ∷ bs) x.0 x.1) (sym (eqb-true _ _ k.0)) (longest_at 62 bs (greater_at bs) x (greater_is bs) k.1)
-          | inr h ↦
-              let a = bind_some (single b) (λ s. Some (s, bs)) x h.1 in
-              subst (λ (z : SymbolValue × List ℕ). Longest (b ∷ bs) z.0 z.1) (some_is (a.0, bs) x a.2) (single_is b bs a.0 a.1)
-        ]
+        | inl k ↦ subst (λ (c : ℕ). Longest (c ∷ bs) x.0 x.1) (sym (eqb-true _ _ k.0)) (longest_at 62 bs (greater_at bs) x (greater_is bs) k.1)
+        | inr h ↦
+            let a = bind_some (single b) (λ s. Some (s, bs)) x h.1 in
+            subst (λ (z : SymbolValue × List ℕ). Longest (b ∷ bs) z.0 z.1) (some_is (a.0, bs) x a.2) (single_is b bs a.0 a.1)
+      ]
     ]
 
 -- a minus that the symbol's text begins with is the byte 45

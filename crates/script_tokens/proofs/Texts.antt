@@ -43,9 +43,9 @@ body_plain b bs h = rw ((plain_parts b h).0, (plain_parts b h).1) refl
 plain_run : (bs : List ℕ) → body plain bs ≡ with_front (take (prefix_len is_plain bs) bs) (body plain (drop (prefix_len is_plain bs) bs))
 plain_run [] = no_front (body plain [])
 plain_run (b ∷ bs) = elim (Bool_tells (is_plain b)) [
-      | inl h ↦ rw (h, one_add (prefix_len is_plain bs)) (body_plain b bs h ∙ ap (put b) (plain_run bs) ∙ put_front b (take (prefix_len is_plain bs) bs) (body plain (drop (prefix_len is_plain bs) bs)))
-      | inr h ↦ rw h (no_front (body plain (b ∷ bs)))
-    ]
+  | inl h ↦ rw (h, one_add (prefix_len is_plain bs)) (body_plain b bs h ∙ ap (put b) (plain_run bs) ∙ put_front b (take (prefix_len is_plain bs) bs) (body plain (drop (prefix_len is_plain bs) bs)))
+  | inr h ↦ rw h (no_front (body plain (b ∷ bs)))
+]
 
 -- the bytes that stand for themselves are taken at once
 pub run_taken : (items rest run end now : List ℕ) → run ≡ take (prefix_len is_plain rest) rest → end ≡ drop (prefix_len is_plain rest) rest → now ≡ items ++ run → with_front items (body plain rest) ≡ with_front now (body plain end)
@@ -110,9 +110,9 @@ passed plain (b ∷ bs) x e =
     elim (cond_some (b == 39) (body quoted bs) (cond (b == 92) (body slashed bs) (put b (body plain bs))) x e) [
       | inl q ↦ subst (λ (c : ℕ). InsideOf (c ∷ bs) x.0 x.1) (sym (eqb-true _ _ q.0)) (passed quoted bs x q.1)
       | inr q ↦ elim (cond_some (b == 92) (body slashed bs) (put b (body plain bs)) x q.1) [
-          | inl s ↦ subst (λ (c : ℕ). InsideOf (c ∷ bs) x.0 x.1) (sym (eqb-true _ _ s.0)) (passed slashed bs x s.1)
-          | inr s ↦ longer b (b ∷ []) bs x (λ t inner k. itself b t inner (plain_is b q.0 s.0) k) (passed plain bs) s.1
-        ]
+        | inl s ↦ subst (λ (c : ℕ). InsideOf (c ∷ bs) x.0 x.1) (sym (eqb-true _ _ s.0)) (passed slashed bs x s.1)
+        | inr s ↦ longer b (b ∷ []) bs x (λ t inner k. itself b t inner (plain_is b q.0 s.0) k) (passed plain bs) s.1
+      ]
     ]
 passed quoted [] x e = ended [] x refl e
 passed quoted (b ∷ bs) x e =
@@ -125,9 +125,9 @@ passed slashed (b ∷ bs) x e =
     elim (cond_some (b == 92) (put 92 (body plain bs)) (cond (b == 120) (body hex bs) None) x e) [
       | inl q ↦ subst (λ (c : ℕ). InsideOf (92 ∷ c ∷ bs) x.0 x.1) (sym (eqb-true _ _ q.0)) (longer 92 (92 ∷ 92 ∷ []) bs x two_backslashes (passed plain bs) q.1)
       | inr q ↦ elim (cond_some (b == 120) (body hex bs) None x q.1) [
-          | inl s ↦ subst (λ (c : ℕ). InsideOf (92 ∷ c ∷ bs) x.0 x.1) (sym (eqb-true _ _ s.0)) (passed hex bs x s.1)
-          | inr s ↦ absurd (let k = s.1 in cc)
-        ]
+        | inl s ↦ subst (λ (c : ℕ). InsideOf (92 ∷ c ∷ bs) x.0 x.1) (sym (eqb-true _ _ s.0)) (passed hex bs x s.1)
+        | inr s ↦ absurd (let k = s.1 in cc)
+      ]
     ]
 passed hex [] x e = absurd cc
 passed hex (b ∷ bs) x e =

@@ -5,6 +5,8 @@ mod fault;
 mod line;
 mod number;
 mod symbol;
+#[cfg(test)]
+mod tests;
 mod text;
 mod token;
 mod word;

@@ -131,5 +131,4 @@ pub fn tokens_of(alloc: Global, line: &[u8]) -> Result<Vec<Token>, ParseError>
 pub fn tokens_are_spelled()
     ensures found { (line : List ℕ) (ts : List AToken) → line_tokens line ≡ Some ts → SpellsLine ts line }
     ensures only { (line : List ℕ) (ts : List AToken) → SpellsLine ts line → line_tokens line ≡ Some ts }
-{
-}
+{}

@@ -38,7 +38,11 @@ fn high(b: u8) -> Option<u8>
     ensures value { result ≡ high_of b }
     ensures small { IfSome result (λ d. d < 8) }
 {
-    if b >= b'0' && b <= b'7' { Some(b - b'0') } else { None }
+    if b >= b'0' && b <= b'7' {
+        Some(b - b'0')
+    } else {
+        None
+    }
 }
 
 /// What the two digits of a `\x` give.
@@ -137,5 +141,4 @@ pub fn text(alloc: Global, bytes: &[u8]) -> Result<(Bytes, &[u8]), ParseError>
 pub fn inside_is_spelled()
     ensures found { (bs t rest : List ℕ) → body plain bs ≡ Some (t, rest) → InsideOf bs t rest }
     ensures only { (t inner rest : List ℕ) → SpellsInside t inner → begins_quote rest ≡ false → body plain (inner ++ 39 ∷ rest) ≡ Some (t, rest) }
-{
-}
+{}
