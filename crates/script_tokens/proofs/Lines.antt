@@ -1,6 +1,6 @@
 -- Cutting a line into tokens is the inverse of spelling them.
-use Rattle.std.proofs.Common.{◌≡◌, ℕ, zero, suc, ◌+◌, ◌-◌, ◌<◌, ◌≤◌, Bool, true, false, cond, List, [], ◌∷◌, ◌++◌, length, take, drop, Option, Some, None, refl, sym, ap, subst, ◌∙◌, append_assoc, arith, eqb, inl, inr, ℤ, pos, neg_ℤ, ◌^◌, Result, Err, length-append}
-use Rattle.std.specs.Prelude.{◌==◌, ◌||◌, ◌&&◌, ◌⊎◌, not, nat_le, nat_lt}
+use Rattle.std.proofs.Common.{◌≡◌, ℕ, zero, suc, ◌-◌, ◌<◌, ◌≤◌, Bool, true, false, cond, List, [], ◌∷◌, ◌++◌, length, take, drop, Option, Some, None, refl, sym, ap, subst, ◌∙◌, append_assoc, arith, inl, inr, ℤ, pos, neg_ℤ, ◌^◌, Result, Err, length-append}
+use Rattle.std.specs.Prelude.{◌==◌, ◌&&◌, nat_le, nat_lt}
 use Rattle.std.specs.List.{prefix_len}
 use Rattle.std.specs.Str.Parse.{digits_value}
 use Rattle.std.proofs.lemmas.List.{append-nil, take_at, drop_at, take-append-drop}
@@ -15,10 +15,10 @@ use Rattle.script_tokens.specs.Words.{is_letter, is_word_byte, is_digit, gap, be
 use Rattle.script_tokens.specs.Gives.{◌>>=◌, Fails}
 use Rattle.script_tokens.specs.Quoted.{body, plain}
 use Rattle.script_tokens.specs.Tokens.{begins_letter, IsWord, IsDigits, symbol_text, is_sign, is_minus, SpellsToken, word, number, negative, text, symbol, SpellsTokens, nothing, space, token, SpellsLine}
-use Rattle.script_tokens.specs.Reading.{Taken, word_of, word_at, unsigned_value, negative_value, number_of, number_at, negative_at, text_at, symbol_at, mark_at, token_at, put, put_some, value_after, lex, line_tokens, starts_space}
-use Rattle.script_tokens.proofs.Runs.{some_is, bind_some, cond_some, guarded, and_true, or_false, Bool_tells, runs, run_is_run, begins_run, first_of_run, gap_no_word, gap_no_digit, letter_no_space, digit_no_space, digit_no_letter}
+use Rattle.script_tokens.specs.Reading.{Taken, word_of, word_at, unsigned_value, negative_value, number_of, number_at, negative_at, text_at, symbol_at, mark_at, token_at, put, lex, line_tokens, starts_space}
+use Rattle.script_tokens.proofs.Runs.{some_is, bind_some, cond_some, guarded, and_true, runs, run_is_run, begins_run, first_of_run, gap_no_word, gap_no_digit, letter_no_space, digit_no_space, digit_no_letter}
 use Rattle.script_tokens.proofs.Texts.{inside_again, passed, gap_no_quote}
-use Rattle.script_tokens.proofs.Symbols.{symbol_again, symbol_starts, symbol_is, Longest, is_minus_starts}
+use Rattle.script_tokens.proofs.Symbols.{symbol_again, symbol_starts, symbol_is, is_minus_starts}
 
 lex_skip : (value : Bool) (k : ℕ) (bs : List ℕ) → lex value k bs ≡ lex value 0 (drop k bs)
 unfolding lex

@@ -1,16 +1,12 @@
 -- Symbols.
-use Rattle.std.proofs.Common.{◌≡◌, ℕ, zero, suc, ◌+◌, ◌<◌, Bool, true, false, cond, List, [], ◌∷◌, ◌++◌, length, Option, Some, None, refl, sym, ap, subst, ◌∙◌, arith, inl, inr}
-use Rattle.std.specs.Prelude.{◌==◌, ◌||◌, ◌&&◌, ◌⊎◌, not}
+use Rattle.std.proofs.Common.{◌≡◌, ℕ, ◌<◌, Bool, true, false, cond, List, [], ◌∷◌, ◌++◌, length, Some, None, refl, sym, ap, subst, arith, inl, inr}
+use Rattle.std.specs.Prelude.{◌==◌, ◌||◌, ◌&&◌}
 use Rattle.std.proofs.lemmas.Bool.{eqb-true}
-use Rattle.std.proofs.lemmas.Bool.Decides.{nat_tests}
-use Rattle.script_tokens.specs.declared.token.Token.{Token}
-use Rattle.script_tokens.specs.declared.token.Token.TheVariants.{Word, Number, Text, Symbol}
+use Rattle.script_tokens.specs.declared.token.Token.TheVariants.{Symbol}
 use Rattle.script_tokens.specs.declared.token.Symbol.{Symbol as SymbolValue}
 use Rattle.script_tokens.specs.declared.token.Symbol.TheVariants.{Open, Close, Comma, Equal, NotEqual, Less, AtMost, Greater, AtLeast, Plus, Minus, Star, Dot}
-use Rattle.script_tokens.specs.Words.{is_letter, is_digit}
-use Rattle.script_tokens.specs.Gives.{◌>>=◌}
 use Rattle.script_tokens.specs.Tokens.{symbol_text, goes_on, is_sign, is_minus}
-use Rattle.script_tokens.specs.Reading.{less_at, greater_at, single, symbol_at, mark_at, token_at, starts_space}
+use Rattle.script_tokens.specs.Reading.{less_at, greater_at, single, symbol_at, token_at, starts_space}
 use Rattle.script_tokens.proofs.Runs.{some_is, bind_some, cond_some, or_false}
 
 pub symbol_again : (value : Bool) (s : SymbolValue) (rest : List ℕ) → goes_on s rest ≡ false → (is_minus s && is_sign value rest) ≡ false → token_at value (symbol_text s ++ rest) ≡ Some (Symbol s, rest)

@@ -1,5 +1,5 @@
 -- The inside of a text in quotes.
-use Rattle.std.specs.Prelude.{◌≡◌, ℕ, ◌+◌, ◌*◌, ◌-◌, ◌<◌, Bool, true, false, List, [], ◌∷◌, ◌++◌, Option, Some, None, if◌then◌else◌, length, ◌==◌, nat_le, ◌||◌, ◌&&◌, not}
+use Rattle.std.specs.Prelude.{◌≡◌, ℕ, ◌+◌, ◌*◌, ◌-◌, ◌<◌, Bool, true, false, List, [], ◌∷◌, Option, Some, None, if◌then◌else◌, length, ◌==◌, nat_le, ◌||◌, ◌&&◌, not}
 use Rattle.script_tokens.specs.Gives.{◌>>=◌}
 use Rattle.script_tokens.specs.declared.text.Piece.{Piece}
 use Rattle.script_tokens.specs.declared.text.Piece.TheVariants as piece

@@ -1,4 +1,4 @@
-use Rattle.std.proofs.Common.{◌≡◌, sym, w64, rules, Some, None}
+use Rattle.std.proofs.Common.{w64, rules, Some, None}
 use Rattle.std.proofs.lemmas.Int.{to_z-of_z}
 use mir.Val.{SFits}
 use Rattle.script_tokens.proofs.Numbers.{signed_gives}

@@ -1,4 +1,4 @@
-use Rattle.std.proofs.Common.{◌≡◌, sym, ap, ◌∙◌, w64, rules, Some, None, drop, take}
+use Rattle.std.proofs.Common.{ap, ◌∙◌, w64, rules, Some, None, drop, take}
 use Rattle.std.proofs.lemmas.Int.{to_z-of_z}
 use mir.Val.{SFits}
 use Rattle.script_tokens.proofs.Numbers.{number_gives}

@@ -1,4 +1,4 @@
-use Rattle.std.proofs.Common.{◌≡◌, ℕ, sym, subst, IsUtf8, w64, rules}
+use Rattle.std.proofs.Common.{ℕ, sym, subst, IsUtf8, w64, rules}
 use Rattle.std.proofs.lemmas.Int.{to_z-of_z}
 use mir.Val.{SFits}
 use Rattle.script_tokens.proofs.Numbers.{unsigned_ok, unsigned_err, negative_ok, negative_err, digits_utf8, signed_utf8}
