@@ -1,0 +1,6 @@
+pub mod Lines
+pub mod ItemLines
+pub mod Places
+pub mod Pieces
+pub mod Fits
+pub mod Scripts

@@ -1,0 +1,43 @@
+-- What holds of every script that some bytes spell.
+use Rattle.std.specs.Prelude.{◌≡◌, ℕ, ◌<◌, ◌≤◌, true, List, length, All}
+use Rattle.actor_core.specs.declared.schedule.Item.{Item}
+use Rattle.row_base.specs.declared.row.Datum.{Datum as ADatum}
+use Rattle.op_types.specs.declared.statement.Statement.{Statement as AStatement}
+use Rattle.op_types.specs.declared.statement.Statement.TheVariants as statement
+use Rattle.script_text.specs.declared.script.Script.{Script}
+use Rattle.script_text.specs.declared.script.SessionScript.{SessionScript}
+use Rattle.script_text.specs.declared.script.Header.{Header as AHeader}
+use Rattle.script_text.specs.declared.script.Header.TheVariants as header
+use Rattle.script_text.specs.Places.{column_count, are_columns, table_of}
+
+-- at most 65,536 rows, each a literal for each of so many columns
+pub record AreFitRows (columns : ℕ) (rows : List (List ADatum)) : Type 0 where
+  pub count : length rows ≤ 65536
+  pub lengths : All (λ r. length r ≡ columns) rows
+
+-- a statement over a table of so many columns
+abbrev pub IsFitStatement : ℕ → AStatement → Type 0
+IsFitStatement columns (statement.Insert rows) = AreFitRows columns rows
+IsFitStatement columns statement.Select = Unit {0}
+IsFitStatement columns (statement.Table spec) = ⊥
+
+-- at most 4,096 statements over such a table
+pub record IsFitSession (columns : ℕ) (session : SessionScript) : Type 0 where
+  pub count : length session.statements ≤ 4096
+  pub each : All (IsFitStatement columns) session.statements
+
+-- the table has at most 64 columns of different names, all long and not null
+pub record IsFitHeader (h : AHeader) : Type 0 where
+  pub names : List (List ℕ)
+  pub table : h ≡ table_of names
+  pub distinct : are_columns names ≡ true
+
+-- 1 to 1,000,000 puts, at most 64 sessions, and at most 1,048,576 items, each of one of the sessions
+pub record IsFit (s : Script) : Type 0 where
+  pub least : 1 ≤ s.attempts
+  pub most : s.attempts ≤ 1000000
+  pub header : IsFitHeader s.header
+  pub sessions : length s.sessions ≤ 64
+  pub each : All (IsFitSession (column_count s.header)) s.sessions
+  pub count : length s.items ≤ 1048576
+  pub items : All (λ i. (0 < i.actor) × (i.actor ≤ length s.sessions)) s.items

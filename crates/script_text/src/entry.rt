@@ -1,0 +1,459 @@
+//! What a line is at its place, and the place behind it.
+ghost use Rattle.std.specs.Prelude.{◌≡◌, ◌≤◌, ◌++◌, length, map, IfOk, IfErr, OnOk};
+ghost use Rattle.script_tokens.specs.Gives.{Gives};
+ghost use Rattle.script_text.specs.Places.{attempts_of, are_distinct, are_columns, long_column, table_of, begins_lower, are_lower, is_session_name, column_count, fit_table, start_entry, session_start, headed_entry, session_entry, entry_at, is_declared, is_new, is_placed, is_known, session_fits, row_count, statement_fits, items_fit, is_within, begun, named, with_session, with_statement, known_item, with_items, after_start, after_header, after_session, after_schedule, after};
+ghost use Rattle.script_text.specs.Scripts.{session_count};
+ghost use Rattle.std.specs.List.{list_all, list_any, flat_map};
+ghost use Rattle.std.specs.Str.{bytes_eq};
+
+use crate::items::{has_bytes, placed_items};
+use crate::line::{Line, read_one};
+use crate::place::{Entry, Place, Placed};
+use crate::script::{Header, Items, Script, SessionScript, Sessions, Statements};
+use actor_core::Item;
+use op_types::{Columns, Statement, TableSpec};
+use row_base::{Column, Kind, Rows, Text};
+use script_tokens::ParseError;
+use std::alloc::Global;
+
+const COLUMN_LIMIT: usize = 64;
+
+const ATTEMPTS_LIMIT: i64 = 1_000_000;
+
+const SESSION_NAME_LIMIT: usize = 16;
+
+const SESSION_LIMIT: usize = 64;
+
+const STATEMENT_LIMIT: usize = 4_096;
+
+const ROW_LIMIT: usize = 65_536;
+
+const ITEM_LIMIT: usize = 1_048_576;
+
+const ATTEMPTS: u32 = 1_000;
+
+fn attempts_of(number: i64) -> Option<u32>
+    ensures { result ≡ attempts_of number }
+{
+    if number >= 1 && number <= ATTEMPTS_LIMIT {
+        Some(number as u32)
+    } else {
+        None
+    }
+}
+
+fn is_among(name: &Text, others: &[Text]) -> bool
+    ensures { result ≡ list_any (λ m. bytes_eq m name.now) others.now }
+{
+    let name = name.as_str().as_bytes();
+    others.iter().any(|other| has_bytes(other, name))
+}
+
+fn are_distinct(names: &[Text]) -> bool
+    ensures { result ≡ are_distinct names.now }
+{
+    let mut rest = names;
+    while let [first, tail @ ..] = rest {
+        if is_among(first, tail) {
+            return false;
+        }
+        rest = tail;
+    }
+    true
+}
+
+fn are_columns(names: &[Text]) -> bool
+    ensures { result ≡ are_columns names.now }
+{
+    names.len() <= COLUMN_LIMIT && are_distinct(names)
+}
+
+fn long_columns(alloc: Global, names: &[Text]) -> Result<Vec<Column>, ParseError>
+    ensures ok { IfOk result (λ v. v.items ≡ map long_column names.now) }
+    ensures err { IfErr result (λ e. e ≡ ParseError.NoMemory) }
+{
+    let mut columns = Vec::new(alloc);
+    for name in names {
+        match name.copy() {
+            Ok(name) => columns.push(Column {
+                name,
+                kind: Kind::Long,
+                nullable: false,
+            })?,
+            Err(_) => return Err(ParseError::NoMemory),
+        }
+    }
+    Ok(columns)
+}
+
+fn table_of(alloc: Global, names: &[Text]) -> Result<Header, ParseError>
+    ensures ok { IfOk result (λ h. h ≡ table_of names.now) }
+    ensures err { IfErr result (λ e. e ≡ ParseError.NoMemory) }
+{
+    Ok(Header::Table(TableSpec {
+        columns: Columns::make(long_columns(alloc, names)?),
+    }))
+}
+
+fn begins_lower(name: &[u8]) -> bool
+    ensures { result ≡ begins_lower name.now }
+{
+    match name {
+        [] => false,
+        [b, ..] => b.is_ascii_lowercase(),
+    }
+}
+
+fn are_lower(name: &[u8]) -> bool
+    ensures { result ≡ are_lower name.now }
+{
+    name.iter()
+        .all(|b| b.is_ascii_lowercase() || b.is_ascii_digit())
+}
+
+fn is_session_name(name: &[u8]) -> bool
+    ensures { result ≡ is_session_name name.now }
+{
+    begins_lower(name) && are_lower(name) && name.len() <= SESSION_NAME_LIMIT
+}
+
+fn column_count(header: &Header) -> usize
+    ensures { result ≡ column_count header.now }
+{
+    match header {
+        Header::Table(spec) => spec.columns.as_slice().len(),
+    }
+}
+
+/// Whether each row has a datum for each column.
+fn fit_table(script: &Script, rows: &Rows) -> bool
+    ensures { result ≡ fit_table script.now rows.now }
+{
+    let count = column_count(&script.header);
+    rows.as_slice()
+        .iter()
+        .all(|row| row.as_slice().len() == count)
+}
+
+fn start_entry(alloc: Global, attempts: Option<u32>, line: Line) -> Result<Entry, ParseError>
+    ensures { Gives (λ e. e) result (start_entry line attempts) }
+{
+    match line {
+        Line::Attempts(number) => match attempts {
+            None => Ok(Entry::Attempts(attempts_of(number))),
+            Some(_) => Err(ParseError::Form),
+        },
+        Line::Table(names) => {
+            if !are_columns(names.as_slice()) {
+                return Err(ParseError::Form);
+            }
+            Ok(Entry::Header(table_of(alloc, names.as_slice())?))
+        }
+        _ => Err(ParseError::Form),
+    }
+}
+
+fn session_start(name: Text) -> Result<Entry, ParseError>
+    ensures { Gives (λ e. e) result (session_start name) }
+{
+    if is_session_name(name.as_str().as_bytes()) {
+        Ok(Entry::Session(name))
+    } else {
+        Err(ParseError::Form)
+    }
+}
+
+fn headed_entry(line: Line) -> Result<Entry, ParseError>
+    ensures { Gives (λ e. e) result (headed_entry line) }
+{
+    match line {
+        Line::Session(name) => session_start(name),
+        Line::Schedule => Ok(Entry::Schedule),
+        _ => Err(ParseError::Form),
+    }
+}
+
+fn session_entry(script: &Script, line: Line) -> Result<Entry, ParseError>
+    ensures { Gives (λ e. e) result (session_entry script.now line) }
+{
+    match line {
+        Line::Session(name) => session_start(name),
+        Line::Insert(rows) => {
+            if !fit_table(script, &rows) {
+                return Err(ParseError::Form);
+            }
+            Ok(Entry::Statement(Statement::Insert { rows }))
+        }
+        Line::Select => Ok(Entry::Statement(Statement::Select)),
+        Line::Schedule => Ok(Entry::Schedule),
+        _ => Err(ParseError::Form),
+    }
+}
+
+/// What the line is at the place. The error `Form` comes where it may not stand there.
+#[tactic(auto, unfolding(crate::specs::Places::entry_at))]
+pub fn entry(alloc: Global, place: &Place, line: &[u8]) -> Result<Entry, ParseError>
+    requires { session_count place.now ≤ 64 }
+    ensures { Gives (λ e. e) result (entry_at place.now line.now) }
+{
+    match place {
+        Place::Start(attempts) => start_entry(alloc, *attempts, read_one(alloc, line)?),
+        Place::Headed(_) => headed_entry(read_one(alloc, line)?),
+        Place::Session(script, _) => session_entry(script, read_one(alloc, line)?),
+        Place::Items(script) => {
+            let items = placed_items(alloc, script.sessions.as_slice(), line)?;
+            Ok(Entry::Items(items))
+        }
+    }
+}
+
+fn is_declared(sessions: &[SessionScript], name: &[u8]) -> bool
+    ensures { result ≡ is_declared sessions.now name.now }
+{
+    sessions
+        .iter()
+        .any(|session| has_bytes(&session.name, name))
+}
+
+fn is_new(place: &Place, name: &[u8]) -> bool
+    ensures { result ≡ is_new place.now name.now }
+{
+    match place {
+        Place::Session(script, current) => {
+            !(is_declared(script.sessions.as_slice(), name) || has_bytes(&current.name, name))
+        }
+        _ => true,
+    }
+}
+
+fn are_placed(items: &[Placed]) -> bool
+    ensures { result ≡ list_all is_placed items.now }
+{
+    items.iter().all(|item| item.session.is_some())
+}
+
+/// Whether a session's name is new there, and the sessions of items are declared.
+#[tactic(auto, unfolding(crate::specs::Places::is_known))]
+pub fn is_known(place: &Place, entry: &Entry) -> bool
+    ensures { result ≡ is_known place.now entry.now }
+{
+    match entry {
+        Entry::Session(name) => is_new(place, name.as_str().as_bytes()),
+        Entry::Items(items) => are_placed(items.as_slice()),
+        _ => true,
+    }
+}
+
+fn session_fits(place: &Place) -> bool
+    ensures { result ≡ session_fits place.now }
+{
+    match place {
+        Place::Headed(script) => script.sessions.as_slice().len() < SESSION_LIMIT,
+        Place::Session(script, _) => script.sessions.as_slice().len() < SESSION_LIMIT - 1,
+        _ => true,
+    }
+}
+
+fn row_count(statement: &Statement) -> usize
+    ensures { result ≡ row_count statement.now }
+{
+    match statement {
+        Statement::Insert { rows } => rows.as_slice().len(),
+        _ => 0,
+    }
+}
+
+fn statement_fits(place: &Place, statement: &Statement) -> bool
+    ensures { result ≡ statement_fits place.now statement.now }
+{
+    match place {
+        Place::Session(_, current) => {
+            row_count(statement) <= ROW_LIMIT
+                && current.statements.as_slice().len() < STATEMENT_LIMIT
+        }
+        _ => true,
+    }
+}
+
+fn items_fit(place: &Place, count: usize) -> bool
+    ensures { result ≡ items_fit place.now count }
+{
+    match place {
+        Place::Items(script) => {
+            let room = ITEM_LIMIT.checked_sub(script.items.as_slice().len());
+            match room {
+                Some(room) => count <= room,
+                None => false,
+            }
+        }
+        _ => true,
+    }
+}
+
+/// Whether the entry passes no limit there.
+#[tactic(auto, unfolding(crate::specs::Places::is_within))]
+pub fn is_within(place: &Place, entry: &Entry) -> bool
+    ensures { result ≡ is_within place.now entry.now }
+{
+    match entry {
+        Entry::Attempts(limit) => limit.is_some(),
+        Entry::Session(_) => session_fits(place),
+        Entry::Statement(statement) => statement_fits(place, statement),
+        Entry::Items(items) => items_fit(place, items.as_slice().len()),
+        _ => true,
+    }
+}
+
+fn begun(alloc: Global, attempts: Option<u32>, header: Header) -> Script
+    ensures { result ≡ begun attempts header }
+{
+    let attempts = match attempts {
+        Some(limit) => limit,
+        None => ATTEMPTS,
+    };
+    Script {
+        attempts,
+        header,
+        sessions: Sessions::make(Vec::new(alloc)),
+        items: Items::make(Vec::new(alloc)),
+    }
+}
+
+fn named(alloc: Global, name: Text) -> SessionScript
+    ensures { result ≡ named name }
+{
+    SessionScript {
+        name,
+        statements: Statements::make(Vec::new(alloc)),
+    }
+}
+
+/// The script with a further session. The error is want of memory.
+pub fn with_session(script: Script, session: SessionScript) -> Result<Script, ParseError>
+    ensures ok { IfOk result (λ s. s ≡ with_session script session) }
+    ensures err { IfErr result (λ e. e ≡ ParseError.NoMemory) }
+{
+    let mut sessions = script.sessions.into_vec();
+    sessions.push(session)?;
+    Ok(Script {
+        attempts: script.attempts,
+        header: script.header,
+        sessions: Sessions::make(sessions),
+        items: script.items,
+    })
+}
+
+fn with_statement(session: SessionScript, statement: Statement) -> Result<SessionScript, ParseError>
+    ensures ok { IfOk result (λ s. s ≡ with_statement session statement) }
+    ensures err { IfErr result (λ e. e ≡ ParseError.NoMemory) }
+{
+    let mut statements = session.statements.into_vec();
+    statements.push(statement)?;
+    Ok(SessionScript {
+        name: session.name,
+        statements: Statements::make(statements),
+    })
+}
+
+fn push_known(all: &mut Vec<Item>, item: &Placed) -> Result<(), ParseError>
+    ensures ok { OnOk result (all.new.items ≡ all.old.items ++ known_item item.now) }
+    ensures err { IfErr result (λ e. e ≡ ParseError.NoMemory) }
+{
+    match item.session {
+        Some(actor) => all.push(Item {
+            actor,
+            form: item.form,
+        })?,
+        None => {}
+    }
+    Ok(())
+}
+
+fn all_known(all: Vec<Item>, items: &[Placed]) -> Result<Vec<Item>, ParseError>
+    ensures ok { IfOk result (λ v. v.items ≡ all.items ++ flat_map known_item items.now) }
+    ensures err { IfErr result (λ e. e ≡ ParseError.NoMemory) }
+{
+    let mut all = all;
+    for item in items {
+        push_known(&mut all, item)?;
+    }
+    Ok(all)
+}
+
+fn with_items(script: Script, items: &[Placed]) -> Result<Script, ParseError>
+    ensures ok { IfOk result (λ s. s ≡ with_items script items.now) }
+    ensures err { IfErr result (λ e. e ≡ ParseError.NoMemory) }
+{
+    Ok(Script {
+        attempts: script.attempts,
+        header: script.header,
+        sessions: script.sessions,
+        items: Items::make(all_known(script.items.into_vec(), items)?),
+    })
+}
+
+fn after_start(alloc: Global, attempts: Option<u32>, entry: Entry) -> Place
+    ensures { result ≡ after_start attempts entry }
+{
+    match entry {
+        Entry::Attempts(limit) => Place::Start(limit),
+        Entry::Header(header) => Place::Headed(begun(alloc, attempts, header)),
+        _ => Place::Start(attempts),
+    }
+}
+
+fn after_header(alloc: Global, script: Script, entry: Entry) -> Place
+    ensures { result ≡ after_header script entry }
+{
+    match entry {
+        Entry::Session(name) => Place::Session(script, named(alloc, name)),
+        Entry::Schedule => Place::Items(script),
+        _ => Place::Headed(script),
+    }
+}
+
+fn after_session(
+    alloc: Global,
+    script: Script,
+    current: SessionScript,
+    entry: Entry,
+) -> Result<Place, ParseError>
+    ensures ok { IfOk result (λ p. p ≡ after_session script current entry) }
+    ensures err { IfErr result (λ e. e ≡ ParseError.NoMemory) }
+{
+    match entry {
+        Entry::Session(name) => Ok(Place::Session(
+            with_session(script, current)?,
+            named(alloc, name),
+        )),
+        Entry::Statement(statement) => {
+            Ok(Place::Session(script, with_statement(current, statement)?))
+        }
+        Entry::Schedule => Ok(Place::Items(with_session(script, current)?)),
+        _ => Ok(Place::Session(script, current)),
+    }
+}
+
+fn after_schedule(script: Script, entry: Entry) -> Result<Place, ParseError>
+    ensures ok { IfOk result (λ p. p ≡ after_schedule script entry) }
+    ensures err { IfErr result (λ e. e ≡ ParseError.NoMemory) }
+{
+    match entry {
+        Entry::Items(items) => Ok(Place::Items(with_items(script, items.as_slice())?)),
+        _ => Ok(Place::Items(script)),
+    }
+}
+
+/// The place behind the entry. The error is want of memory.
+#[tactic(auto, unfolding(crate::specs::Places::after))]
+pub fn after(alloc: Global, place: Place, entry: Entry) -> Result<Place, ParseError>
+    ensures ok { IfOk result (λ p. p ≡ after place entry) }
+    ensures err { IfErr result (λ e. e ≡ ParseError.NoMemory) }
+{
+    match place {
+        Place::Start(attempts) => Ok(after_start(alloc, attempts, entry)),
+        Place::Headed(script) => Ok(after_header(alloc, script, entry)),
+        Place::Session(script, current) => after_session(alloc, script, current, entry),
+        Place::Items(script) => after_schedule(script, entry),
+    }
+}

@@ -1,0 +1,159 @@
+//! What a line says.
+ghost use Rattle.std.specs.Prelude.{◌≡◌, List, ℕ, []};
+ghost use Rattle.script_tokens.specs.Gives.{Gives};
+ghost use Rattle.script_grammar.specs.Shape.{read, listed, a_literal, whole};
+ghost use Rattle.script_text.specs.Lines.{column, row, line_shape, line_value, reading};
+
+use row_base::{Datum, Row, Rows, Text};
+use script_grammar::{
+    find_comma, find_word, take_close, take_literal, take_name, take_number, take_open, take_word,
+};
+use script_tokens::{ParseError, Token, tokens_of};
+use std::alloc::Global;
+use std::marker::Model;
+
+/// Names of columns, in order.
+#[derive(Drop)]
+pub struct Names {
+    names: Vec<Text>,
+}
+
+impl Model for Names {
+    ghost use Rattle.std.specs.Prelude.{List, ℕ};
+
+    ghost Value = { List (List ℕ) };
+
+    ghost view = { λ n. n.names.items };
+}
+
+impl Names {
+    pub fn as_slice(&self) -> &[Text]
+        ensures { result.now ≡ self.now }
+    {
+        &self.names
+    }
+}
+
+/// What a line says, wherever it stands.
+#[derive(Drop)]
+pub enum Line {
+    Attempts(i64),
+    Table(Names),
+    Session(Text),
+    Insert(Rows),
+    Select,
+    Schedule,
+}
+
+/// `NAME long not null`
+fn column(alloc: Global, tokens: &[Token]) -> Result<(Text, &[Token]), ParseError>
+    ensures { Gives (λ x. (x.0, x.1.now)) result (read column tokens.now) }
+{
+    let (name, rest) = take_name(alloc, tokens)?;
+    let rest = take_word(rest, b"long")?;
+    let rest = take_word(rest, b"not")?;
+    let rest = take_word(rest, b"null")?;
+    Ok((name, rest))
+}
+
+fn columns(alloc: Global, tokens: &[Token]) -> Result<(Vec<Text>, &[Token]), ParseError>
+    ensures { Gives (λ x. (x.0.items, x.1.now)) result (read (listed column) tokens.now) }
+{
+    let (first, mut rest) = column(alloc, tokens)?;
+    let mut all = Vec::new(alloc);
+    all.push(first)?;
+    while let Some(tail) = find_comma(rest) {
+        let (next, after) = column(alloc, tail)?;
+        all.push(next)?;
+        rest = after;
+    }
+    Ok((all, rest))
+}
+
+fn literals(alloc: Global, tokens: &[Token]) -> Result<(Vec<Datum>, &[Token]), ParseError>
+    ensures { Gives (λ x. (x.0.items, x.1.now)) result (read (listed a_literal) tokens.now) }
+{
+    let (first, mut rest) = take_literal(tokens)?;
+    let mut all = Vec::new(alloc);
+    all.push(first)?;
+    while let Some(tail) = find_comma(rest) {
+        let (next, after) = take_literal(tail)?;
+        all.push(next)?;
+        rest = after;
+    }
+    Ok((all, rest))
+}
+
+/// `(LITERAL, ..)`
+fn row_at_front(alloc: Global, tokens: &[Token]) -> Result<(Row, &[Token]), ParseError>
+    ensures { Gives (λ x. (x.0, x.1.now)) result (read row tokens.now) }
+{
+    let rest = take_open(tokens)?;
+    let (data, rest) = literals(alloc, rest)?;
+    let rest = take_close(rest)?;
+    Ok((Row::make(data), rest))
+}
+
+fn rows(alloc: Global, tokens: &[Token]) -> Result<(Vec<Row>, &[Token]), ParseError>
+    ensures { Gives (λ x. (x.0.items, x.1.now)) result (read (listed row) tokens.now) }
+{
+    let (first, mut rest) = row_at_front(alloc, tokens)?;
+    let mut all = Vec::new(alloc);
+    all.push(first)?;
+    while let Some(tail) = find_comma(rest) {
+        let (next, after) = row_at_front(alloc, tail)?;
+        all.push(next)?;
+        rest = after;
+    }
+    Ok((all, rest))
+}
+
+/// What stands at the front of the tokens, by its first word.
+fn read_line(alloc: Global, tokens: &[Token]) -> Result<(Line, &[Token]), ParseError>
+    ensures { Gives (λ x. (line_value x.0, x.1.now)) result (read line_shape tokens.now) }
+{
+    if let Some(rest) = find_word(tokens, b"attempts") {
+        let (number, rest) = take_number(rest)?;
+        return Ok((Line::Attempts(number), rest));
+    }
+    if let Some(rest) = find_word(tokens, b"table") {
+        let rest = take_open(rest)?;
+        let (names, rest) = columns(alloc, rest)?;
+        let rest = take_close(rest)?;
+        return Ok((Line::Table(Names { names }), rest));
+    }
+    if let Some(rest) = find_word(tokens, b"session") {
+        let (name, rest) = take_name(alloc, rest)?;
+        return Ok((Line::Session(name), rest));
+    }
+    if let Some(rest) = find_word(tokens, b"insert") {
+        let (rows, rest) = rows(alloc, rest)?;
+        return Ok((Line::Insert(Rows::make(rows)), rest));
+    }
+    if let Some(rest) = find_word(tokens, b"select") {
+        return Ok((Line::Select, rest));
+    }
+    let rest = take_word(tokens, b"schedule")?;
+    Ok((Line::Schedule, rest))
+}
+
+#[tactic(auto, unfolding(script_grammar::specs::Shape::whole))]
+fn whole_line(alloc: Global, tokens: &[Token]) -> Result<Line, ParseError>
+    ensures { Gives line_value result (whole line_shape tokens.now) }
+{
+    let (line, rest) = read_line(alloc, tokens)?;
+    if rest.is_empty() {
+        Ok(line)
+    } else {
+        Err(ParseError::Form)
+    }
+}
+
+/// What the line says. The error `Form` comes where it says nothing.
+#[tactic(auto, unfolding(crate::specs::Lines::reading))]
+pub fn read_one(alloc: Global, line: &[u8]) -> Result<Line, ParseError>
+    ensures { Gives (λ x. x) result (reading line.now) }
+{
+    let tokens = tokens_of(alloc, line)?;
+    whole_line(alloc, &tokens)
+}

@@ -1,0 +1,71 @@
+//! Where a script's reader stands between two lines.
+ghost use Rattle.std.specs.Prelude.{◌≡◌};
+
+use crate::{Header, Script, SessionScript};
+use actor_core::ItemForm;
+use op_types::Statement;
+use row_base::Text;
+use std::marker::Model;
+
+/// The place behind the lines that were taken so far.
+#[derive(Drop)]
+pub enum Place {
+    /// Before the header, behind an `attempts` line or none.
+    Start(Option<u32>),
+    /// Behind the header.
+    Headed(Script),
+    /// In a session. The script holds the sessions before it.
+    Session(Script, SessionScript),
+    /// Behind `schedule`.
+    Items(Script),
+}
+
+/// An item of a line: the place of its session in the script, counted from 1, if there is one of its name.
+#[derive(Clone, Copy, Debug, Drop)]
+pub struct Placed {
+    pub session: Option<u16>,
+    pub form: ItemForm,
+}
+
+/// The items of a line, in order.
+#[derive(Drop)]
+pub struct PlacedItems {
+    items: Vec<Placed>,
+}
+
+impl Model for PlacedItems {
+    ghost use Rattle.std.specs.Prelude.{List};
+    ghost use Rattle.script_text.specs.declared.place.Placed.{Placed};
+
+    ghost Value = { List Placed };
+
+    ghost view = { λ p. p.items.items };
+}
+
+impl PlacedItems {
+    pub fn make(items: Vec<Placed>) -> PlacedItems
+        ensures { result ≡ items.items }
+    {
+        PlacedItems { items }
+    }
+
+    pub fn as_slice(&self) -> &[Placed]
+        ensures { result.now ≡ self.now }
+    {
+        &self.items
+    }
+}
+
+/// What a line is at its place.
+#[derive(Drop)]
+pub enum Entry {
+    /// The limit of puts, if it is one.
+    Attempts(Option<u32>),
+    Header(Header),
+    /// A session of this name begins.
+    Session(Text),
+    Statement(Statement),
+    /// The items begin.
+    Schedule,
+    Items(PlacedItems),
+}

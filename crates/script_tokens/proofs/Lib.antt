@@ -1,0 +1,5 @@
+pub mod Runs
+pub mod Texts
+pub mod Numbers
+pub mod Symbols
+pub mod Lines

@@ -1,0 +1,18 @@
+//! Tokens of a script's line: words, numbers, texts in quotes and symbols.
+#![tactic(auto)]
+
+mod fault;
+mod line;
+mod number;
+mod symbol;
+#[cfg(test)]
+mod tests;
+mod text;
+mod token;
+mod word;
+
+pub use fault::ParseError;
+pub use line::{tokens_are_spelled, tokens_of};
+pub use text::inside_is_spelled;
+pub use token::{Bytes, Symbol, Token};
+pub use word::{is_constant, is_letter, is_reserved, is_word_byte, word_run};

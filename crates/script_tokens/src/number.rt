@@ -1,0 +1,72 @@
+//! Numbers.
+ghost use Rattle.std.specs.Prelude.{◌≡◌, ◌≤◌, ◌<◌, ◌∷◌, ℕ, List, length, true, drop};
+ghost use Rattle.std.specs.List.{prefix_len};
+ghost use Rattle.std.specs.Str.{all_ascii_digits};
+ghost use Rattle.script_tokens.specs.Words.{is_digit};
+ghost use Rattle.script_tokens.specs.Gives.{Gives};
+ghost use Rattle.script_tokens.specs.Reading.{unsigned_value, negative_value, number_at, negative_at};
+
+use crate::word::gap;
+use crate::{ParseError, Token};
+
+fn digit_run(bytes: &[u8]) -> usize
+    ensures is { result ≡ prefix_len is_digit bytes.now }
+    ensures within { result ≤ length bytes.now }
+{
+    bytes.iter().take_while(|b| b.is_ascii_digit()).count()
+}
+
+/// The number that the text gives, a sign with it, if 64 bits hold it.
+fn value_of(text: &[u8]) -> Option<i64>
+    ensures digits { all_ascii_digits text.now ≡ true → 0 < length text.now → result ≡ unsigned_value text.now }
+    ensures negative { (ds : List ℕ) → text.now ≡ 45 ∷ ds → all_ascii_digits ds ≡ true → 0 < length ds → result ≡ negative_value ds }
+{
+    match str::from_utf8(text) {
+        Ok(text) => match text.parse::<i64>() {
+            Ok(number) => Some(number),
+            Err(_) => None,
+        },
+        Err(_) => None,
+    }
+}
+
+/// The number whose digits stand at the front.
+#[tactic(auto, unfolding(crate::specs::Reading::number_at))]
+pub fn number(bytes: &[u8]) -> Result<(Token, &[u8]), ParseError>
+    requires { 0 < prefix_len is_digit bytes.now }
+    ensures { Gives (λ x. (x.0, x.1.now)) result (number_at bytes.now) }
+{
+    let (digits, rest) = bytes.split_at(digit_run(bytes));
+    if !gap(rest) {
+        return Err(ParseError::Form);
+    }
+    match value_of(digits) {
+        Some(number) => Ok((Token::Number(number), rest)),
+        None => Err(ParseError::Form),
+    }
+}
+
+fn behind_sign(bytes: &[u8]) -> &[u8]
+    requires { 0 < length bytes.now }
+    ensures { result.now ≡ drop 1 bytes.now }
+{
+    let (_, behind) = bytes.split_at(1);
+    behind
+}
+
+/// The number whose sign and digits stand at the front.
+#[tactic(auto, unfolding(crate::specs::Reading::negative_at))]
+pub fn negative(bytes: &[u8]) -> Result<(Token, &[u8]), ParseError>
+    requires sign { (ds : List ℕ) × (bytes.now ≡ 45 ∷ ds) }
+    requires some { 0 < prefix_len is_digit (drop 1 bytes.now) }
+    ensures { Gives (λ x. (x.0, x.1.now)) result (negative_at (drop 1 bytes.now)) }
+{
+    let (text, rest) = bytes.split_at(1 + digit_run(behind_sign(bytes)));
+    if !gap(rest) {
+        return Err(ParseError::Form);
+    }
+    match value_of(text) {
+        Some(number) => Ok((Token::Number(number), rest)),
+        None => Err(ParseError::Form),
+    }
+}
