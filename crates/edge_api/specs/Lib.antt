@@ -1,3 +1,4 @@
 pub mod Journal
 pub mod World
 pub mod Actor
+pub mod Memory

@@ -5,9 +5,11 @@
 mod actor;
 mod bytes;
 mod call;
+mod memory;
 mod world;
 
 pub use actor::{Actor, Fed, Stage, Step};
 pub use bytes::{Body, Name};
 pub use call::{Answer, Back, Call, CallKind, Called, JournalEntry, Listed, Listing, Object, Tag};
+pub use memory::MemWorld;
 pub use world::{Gate, World};
