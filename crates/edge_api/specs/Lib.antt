@@ -2,3 +2,4 @@ pub mod Journal
 pub mod World
 pub mod Actor
 pub mod Memory
+pub mod Streams

@@ -6,10 +6,12 @@ mod actor;
 mod bytes;
 mod call;
 mod memory;
+mod stream;
 mod world;
 
 pub use actor::{Actor, Fed, Stage, Step};
 pub use bytes::{Body, Name};
 pub use call::{Answer, Back, Call, CallKind, Called, JournalEntry, Listed, Listing, Object, Tag};
 pub use memory::MemWorld;
+pub use stream::{Failed, ReadError, Sink, Source, read_all, write_all};
 pub use world::{Gate, World};
