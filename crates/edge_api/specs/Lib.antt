@@ -3,3 +3,4 @@ pub mod World
 pub mod Actor
 pub mod Memory
 pub mod Streams
+pub mod Adapters
