@@ -2,5 +2,6 @@ pub mod Journal
 pub mod World
 pub mod Actor
 pub mod Memory
+pub mod Replay
 pub mod Streams
 pub mod Adapters

@@ -42,9 +42,10 @@ fn listing_of(
 }
 
 /// The clock after a call.
-fn clock_of(clock: u64, call: &Call) -> u64
+pub(crate) fn clock_of(clock: u64, call: &Call) -> u64
     requires { clock ≤ 2 ^ 61 }
-    ensures { result ≡ clock_after clock call.now }
+    ensures clock { result ≡ clock_after clock call.now }
+    ensures bound { result ≤ 2 ^ 61 }
 {
     match call {
         Call::Wait(time) => clock.saturating_add(*time).min(LAST_TIME),
