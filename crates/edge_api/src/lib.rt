@@ -10,6 +10,8 @@ mod memory_streams;
 mod replay;
 mod std_streams;
 mod stream;
+#[cfg(test)]
+mod tests;
 mod world;
 
 pub use actor::{Actor, Fed, Stage, Step};

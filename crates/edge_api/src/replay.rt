@@ -64,18 +64,14 @@ fn put(
 fn remove(objects: &mut Vec<(Name, Object)>, name: &Name)
     ensures { objects.new.items ≡ without_object objects.old.items name.now }
 {
-    objects.retain(|object|
-        ensures { result ≡ not (bytes_eq object.now.0 name.entry.now) }
-    {
-        object.0 != *name
-    });
+    objects.retain(
+        |object|
+            ensures { result ≡ not (bytes_eq object.now.0 name.entry.now) }
+        { object.0 != *name },
+    );
 }
 
-fn change(
-    objects: &mut Vec<(Name, Object)>,
-    clock: u64,
-    call: &Call,
-) -> Result<(), AllocError>
+fn change(objects: &mut Vec<(Name, Object)>, clock: u64, call: &Call) -> Result<(), AllocError>
     ensures { OnOk result (objects.new.items ≡ effect_of objects.old.items clock call.now) }
 {
     match call {
