@@ -1,0 +1,4 @@
+pub mod Completions
+pub mod Objects
+pub mod Streams
+pub mod ObjectLists

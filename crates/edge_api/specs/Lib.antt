@@ -1,3 +1,7 @@
 pub mod Journal
 pub mod World
 pub mod Actor
+pub mod Memory
+pub mod Replay
+pub mod Streams
+pub mod Adapters

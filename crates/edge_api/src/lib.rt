@@ -5,9 +5,21 @@
 mod actor;
 mod bytes;
 mod call;
+mod memory;
+mod memory_streams;
+mod replay;
+mod std_streams;
+mod stream;
+#[cfg(test)]
+mod tests;
 mod world;
 
 pub use actor::{Actor, Fed, Stage, Step};
 pub use bytes::{Body, Name};
 pub use call::{Answer, Back, Call, CallKind, Called, JournalEntry, Listed, Listing, Object, Tag};
+pub use memory::MemWorld;
+pub use memory_streams::{MemSink, MemSource};
+pub use replay::replay_journal;
+pub use std_streams::{StdSink, StdSource};
+pub use stream::{Failed, ReadError, Sink, Source, read_all, write_all};
 pub use world::{Gate, World};

@@ -1,0 +1,235 @@
+// A store in memory, which keeps its journal and never fails.
+ghost use Rattle.std.specs.Prelude.{◌≡◌, ◌≤◌, ◌^◌, [], ◌∷◌, ◌++◌, Some, IfOk, IfErr, OnOk, OnErr};
+ghost use Rattle.std.specs.Option.{option_copied, option_map};
+ghost use Rattle.edge_api.specs.Journal.{object_at, with_object, without_object, listing, answer_of, effect_of, HasLegalCompletion, IsOfKind};
+ghost use Rattle.edge_api.specs.Memory.{clock_after, memory_answer, memory_after};
+ghost use Rattle.edge_api.specs.World.{Grows, FaultHasCause};
+
+use crate::{Answer, Back, Body, Call, JournalEntry, Listed, Listing, Name, Object, Tag, World};
+use std::alloc::{AllocError, Global};
+use std::collections::BTreeMap;
+use std::marker::Model;
+use std::ops::Bound;
+
+/// The greatest reading of a clock, in milliseconds.
+const LAST_TIME: u64 = 1 << 61;
+
+fn object_of<'a>(objects: &'a BTreeMap<Name, Object>, name: &Name) -> Option<&'a Object>
+    ensures { option_copied result ≡ object_at objects.now.entries name.now }
+{
+    objects.get(name)
+}
+
+/// The names that begin with the prefix, from the first one on.
+fn listing_of(
+    alloc: Global,
+    objects: &BTreeMap<Name, Object>,
+    prefix: &Name,
+) -> Result<Listing, AllocError>
+    ensures { IfOk result (λ l. l ≡ listing objects.now.entries prefix.now) }
+{
+    let mut items = Vec::new(alloc);
+    for (name, object) in objects.range((Bound::Included(prefix), Bound::Unbounded)) {
+        if !name.as_bytes().starts_with(prefix.as_bytes()) {
+            break;
+        }
+        items.push(Listed {
+            name: name.copy()?,
+            put_at: object.put_at,
+        })?;
+    }
+    Listing::make(alloc, items)
+}
+
+/// The clock after a call.
+pub(crate) fn clock_of(clock: u64, call: &Call) -> u64
+    requires { clock ≤ 2 ^ 61 }
+    ensures clock { result ≡ clock_after clock call.now }
+    ensures bound { result ≤ 2 ^ 61 }
+{
+    match call {
+        Call::Wait(time) => clock.saturating_add(*time).min(LAST_TIME),
+        _ => clock,
+    }
+}
+
+/// The answer to a call.
+fn answer_to(
+    alloc: Global,
+    objects: &BTreeMap<Name, Object>,
+    clock: u64,
+    call: &Call,
+) -> Result<Answer, AllocError>
+    ensures { IfOk result (λ answer. answer ≡ answer_of objects.now.entries clock call.now) }
+{
+    match call {
+        Call::Get(name) => match object_of(objects, name) {
+            Some(object) => Ok(Answer::Body(object.body.copy()?)),
+            None => Ok(Answer::Missing),
+        },
+        Call::PutNew(name, _) => match object_of(objects, name) {
+            Some(_) => Ok(Answer::Taken),
+            None => Ok(Answer::Stored),
+        },
+        Call::Put(_, _) => Ok(Answer::Stored),
+        Call::List(prefix) => Ok(Answer::Names(listing_of(alloc, objects, prefix)?)),
+        Call::Delete(_) => Ok(Answer::Gone),
+        Call::Now => Ok(Answer::Time(clock)),
+        Call::Wait(_) => Ok(Answer::Waited),
+    }
+}
+
+fn put_object(
+    objects: &mut BTreeMap<Name, Object>,
+    clock: u64,
+    name: &Name,
+    body: &Body,
+) -> Result<(), AllocError>
+    ensures ok { OnOk result (objects.new.entries ≡ with_object objects.old.entries name.now (record { body = body.now; put_at = clock })) }
+    ensures err { OnErr result (objects.new.entries ≡ objects.old.entries) }
+{
+    let object = Object {
+        body: body.copy()?,
+        put_at: clock,
+    };
+    objects.insert(name.copy()?, object)?;
+    Ok(())
+}
+
+fn remove_object(objects: &mut BTreeMap<Name, Object>, name: &Name)
+    ensures { objects.new.entries ≡ without_object objects.old.entries name.now }
+{
+    objects.remove(name);
+}
+
+/// Changes the objects as the call says.
+fn change_objects(
+    objects: &mut BTreeMap<Name, Object>,
+    clock: u64,
+    call: &Call,
+) -> Result<(), AllocError>
+    ensures ok { OnOk result (objects.new.entries ≡ effect_of objects.old.entries clock call.now) }
+    ensures err { OnErr result (objects.new.entries ≡ objects.old.entries) }
+{
+    match call {
+        Call::PutNew(name, body) => match object_of(objects, name) {
+            Some(_) => Ok(()),
+            None => put_object(objects, clock, name, body),
+        },
+        Call::Put(name, body) => put_object(objects, clock, name, body),
+        Call::Delete(name) => {
+            remove_object(objects, name);
+            Ok(())
+        }
+        Call::Get(_) | Call::List(_) | Call::Now | Call::Wait(_) => Ok(()),
+    }
+}
+
+/// Makes a call and writes it into the journal.
+fn make_call(
+    alloc: Global,
+    objects: &mut BTreeMap<Name, Object>,
+    journal: &mut Vec<JournalEntry>,
+    clock: &mut u64,
+    tag: Tag,
+    call: &Call,
+) -> Result<Answer, AllocError>
+    requires { clock.old ≤ 2 ^ 61 }
+    ensures answer { IfOk result (λ answer. answer ≡ answer_of objects.old.entries clock.new call.now) }
+    ensures objects { OnOk result (objects.new.entries ≡ effect_of objects.old.entries clock.new call.now) }
+    ensures journal { IfOk result (λ answer. journal.new.items ≡ journal.old.items ++ record { tag = tag; call = call.now; answer = answer } ∷ []) }
+    ensures clock { OnOk result (clock.new ≡ clock_after clock.old call.now) }
+    ensures same_objects { OnErr result (objects.new.entries ≡ objects.old.entries) }
+    ensures same_journal { OnErr result (journal.new.items ≡ journal.old.items) }
+    ensures same_clock { OnErr result (clock.new ≡ clock.old) }
+{
+    let later = clock_of(*clock, call);
+    let answer = answer_to(alloc, objects, later, call)?;
+    let entry = JournalEntry {
+        tag,
+        call: call.copy()?,
+        answer: answer.copy()?,
+    };
+    journal.reserve(1)?;
+    change_objects(objects, later, call)?;
+    journal.push(entry).unwrap();
+    *clock = later;
+    Ok(answer)
+}
+
+/// A store in memory. It keeps the journal of its calls, and it never fails.
+#[derive(Drop)]
+pub struct MemWorld {
+    alloc: Global,
+    clock: u64,
+    objects: BTreeMap<Name, Object>,
+    journal: Vec<JournalEntry>,
+}
+
+impl Model for MemWorld {
+    ghost use Rattle.edge_api.specs.Memory.{Memory, IsCompleted};
+
+    ghost Value = { Memory };
+
+    ghost view = { λ w. record { journal = w.journal.items; objects = w.objects.entries; clock = w.clock } };
+
+    ghost invariant = { λ w. IsCompleted w.journal.items w.objects.entries w.clock };
+}
+
+impl MemWorld {
+    /// A store with no objects, whose clock stands at a start in milliseconds, at most 2^61.
+    pub fn new(alloc: Global, start: u64) -> MemWorld
+        requires { start ≤ 2 ^ 61 }
+        ensures { result ≡ record { journal = []; objects = []; clock = start } }
+    {
+        MemWorld {
+            alloc,
+            clock: start,
+            objects: BTreeMap::new(alloc),
+            journal: Vec::new(alloc),
+        }
+    }
+
+    /// The body of the object under a name, if it is there.
+    pub fn object(&self, name: &Name) -> Option<&Body>
+        ensures { option_copied result ≡ option_map (λ o. o.body) (object_at self.now.objects name.now) }
+    {
+        object_of(&self.objects, name).map(|object| &object.body)
+    }
+
+    /// The calls so far with their answers.
+    pub fn journal(&self) -> &[JournalEntry]
+        ensures { result.now ≡ self.now.journal }
+    {
+        &self.journal
+    }
+}
+
+impl World for MemWorld {
+    ghost journal = { λ w. Some w.journal };
+
+    ghost faults = { λ _. 0 };
+
+    fn call(&mut self, tag: Tag, call: Call) -> Result<Answer, Back>
+        ensures appended { IfOk result (λ answer. Grows (Some self.old.journal) (record { tag = tag; call = call; answer = answer } ∷ []) (Some self.new.journal)) }
+        ensures kind { IfOk result (λ answer. IsOfKind call answer) }
+        ensures completion { HasLegalCompletion self.new.journal }
+        ensures back { IfErr result (λ back. back.call ≡ call) }
+        ensures unchanged { OnErr result (self.new ≡ self.old) }
+        ensures cause { IfOk result (FaultHasCause 0 0) }
+        ensures answer { IfOk result (λ answer. answer ≡ memory_answer self.old call) }
+        ensures after { OnOk result (self.new ≡ memory_after self.old tag call) }
+    {
+        match make_call(
+            self.alloc,
+            &mut self.objects,
+            &mut self.journal,
+            &mut self.clock,
+            tag,
+            &call,
+        ) {
+            Ok(answer) => Ok(answer),
+            Err(_) => Err(Back { call }),
+        }
+    }
+}
