@@ -1,5 +1,5 @@
 -- The first element that is wrong after those before it: a loop's steps, and what it says.
-use Rattle.std.proofs.Common.{◌≡◌, ℕ, zero, suc, ◌+◌, ◌<◌, ◌≤◌, Bool, true, false, cond, List, [], ◌∷◌, ◌++◌, length, get_or, take, drop, Option, Some, None, refl, sym, ◌∙◌, ap, subst, arith, append-nil, append_assoc, length-append, add-zero, zero-add}
+use Rattle.std.proofs.Common.{◌≡◌, ℕ, zero, suc, ◌+◌, ◌<◌, ◌≤◌, Bool, true, false, cond, List, [], ◌∷◌, ◌++◌, length, get_or, take, drop, Some, None, refl, sym, ◌∙◌, ap, subst, arith, append-nil, append_assoc, length-append, add-zero, zero-add}
 use Rattle.std.proofs.lemmas.List.{drop_more, take_more, drop_all, length-take-le}
 use Rattle.row_base.specs.Schema.{first_after, IsFirstWrong}
 
@@ -91,9 +91,11 @@ module _ {A : Type 0} (wrong : List A → A → Bool) where
   pub first_wrong : (xs : List A) (k : ℕ) (x : A) → first_after wrong [] xs ≡ Some (k, x) → IsFirstWrong wrong xs k × ((d : A) → get_or xs k d ≡ x)
   first_wrong xs k x e =
       let f = first_after-Some [] xs k x e in
-      let at : f.place ≡ k = sym (f.at ∙ zero-add f.place) in
-      (record {
-        within = subst (λ n. n < length xs) at f.within;
-        here = λ d. ap (λ n. wrong (take n xs) (get_or xs n d)) (sym at) ∙ ap (wrong (take f.place xs)) (f.is d) ∙ f.here;
-        before = λ j d h. f.right j d (omega (arith, at));
-      }, λ d. ap (λ n. get_or xs n d) (sym at) ∙ f.is d)
+      let at : f.place ≡ k = sym (f.at ∙ zero-add f.place) in (
+        record {
+          within = subst (λ n. n < length xs) at f.within;
+          here = λ d. ap (λ n. wrong (take n xs) (get_or xs n d)) (sym at) ∙ ap (wrong (take f.place xs)) (f.is d) ∙ f.here;
+          before = λ j d h. f.right j d (omega (arith, at));
+        },
+        λ d. ap (λ n. get_or xs n d) (sym at) ∙ f.is d,
+      )

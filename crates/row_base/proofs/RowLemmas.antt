@@ -1,8 +1,7 @@
 -- Rows that fit, and settled rows.
-use Rattle.std.proofs.Common.{◌≡◌, ◌≢◌, ℕ, zero, suc, ◌+◌, ◌<◌, ◌≤◌, ◌==◌, Bool, true, false, cond, List, [], ◌∷◌, length, get_or, take, drop, set, ◌⊎◌, inl, inr, Option, Some, None, refl, sym, ◌∙◌, ap, arith, add-one, add-zero, zero-add}
+use Rattle.std.proofs.Common.{◌≡◌, ◌≢◌, ℕ, zero, suc, ◌+◌, ◌<◌, ◌==◌, Bool, true, false, cond, List, [], ◌∷◌, length, get_or, take, set, inl, inr, Option, Some, None, refl, sym, ◌∙◌, ap, arith, add-one, add-zero, zero-add}
 use Rattle.std.specs.Option.{option_or}
 use Rattle.std.proofs.lemmas.Bool.Decides.{nat_tests}
-use Rattle.std.proofs.lemmas.List.{drop_more, take_all}
 use Rattle.row_base.specs.declared.row.Datum.{Datum}
 use Rattle.row_base.specs.declared.schema.Column.{Column}
 use Rattle.row_base.specs.declared.schema.RowFault.{RowFault}
@@ -58,8 +57,8 @@ right_each ps at [] (x ∷ ds) long right = refl
 right_each ps at (b ∷ cs) (x ∷ ds) long right =
     let here : datum_fault ps at b x ≡ None = ap (λ n. datum_fault ps n b x) (sym (add-zero at)) ∙ right 0 b x (omega arith) in
     let rest = right_each ps (at + 1) cs ds (omega arith) (λ k c d h.
-        let same : at + 1 + k ≡ at + suc k = omega arith in
-        ap (λ n. datum_fault ps n (get_or cs k c) (get_or ds k d)) same ∙ right (suc k) c d (omega arith)) in
+    let same : at + 1 + k ≡ at + suc k = omega arith in
+    ap (λ n. datum_fault ps n (get_or cs k c) (get_or ds k d)) same ∙ right (suc k) c d (omega arith)) in
     ap (λ x. option_or x (first_datum_fault ps (at + 1) cs ds)) here ∙ rest
 
 by_count : (b : Bool) (x : Option RowFault) → cond b x (Some fault.Count) ≡ None → (b ≡ true) × (x ≡ None)

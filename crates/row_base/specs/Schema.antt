@@ -59,8 +59,8 @@ is_partition_column s place = list_any (λ p. p == place) s.partition
 abbrev pub schema_fault : List Column → List ℕ → Option SchemaFault
 schema_fault columns partition =
     if is_column_count (length columns) then
-        option_or (option_map (λ x. schema.Twice x.0) (first_after repeats_name [] columns))
-        (option_map (λ x. schema.Partition x.1) (first_after (is_wrong_place (length columns)) [] partition))
+    option_or (option_map (λ x. schema.Twice x.0) (first_after repeats_name [] columns))
+    (option_map (λ x. schema.Partition x.1) (first_after (is_wrong_place (length columns)) [] partition))
     else Some schema.Columns
 
 -- what holds of every schema

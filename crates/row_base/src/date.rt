@@ -42,8 +42,7 @@ pub fn write_date(alloc: Global, day: i32) -> Result<Text, NoMemory>
 pub fn dates_give_back()
     ensures texts { (bytes : List ℕ) (n : ℤ) → date_in bytes ≡ Some n → text_of_day n ≡ bytes }
     ensures numbers { (n : ℤ) → IsDayNumber n → date_in (text_of_day n) ≡ Some n }
-{
-}
+{}
 
 /// The day that ten bytes name.
 #[tactic(auto, unfolding(crate::specs::Dates::date_in))]

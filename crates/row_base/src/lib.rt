@@ -8,10 +8,9 @@ mod memory;
 mod order;
 mod row;
 mod schema;
-mod text;
-
 #[cfg(test)]
 mod tests;
+mod text;
 
 pub use bag::rows_are_counted;
 pub use date::{dates_give_back, read_date, write_date};

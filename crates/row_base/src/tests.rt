@@ -104,7 +104,10 @@ fn rows_fit_or_the_first_wrong_column_is_named(rt: HostRuntime) -> Result<(), Fa
     assert_eq!(rt; schema.fits(&null), Err(RowFault::Null { column: 0 }));
     let text = Datum::Text(Text::make(alloc, "")?);
     let empty = row(alloc, Datum::Long(1), text, Datum::Null)?;
-    assert_eq!(rt; schema.fits(&empty), Err(RowFault::EmptyPartition { column: 1 }));
+    assert_eq!(rt;
+        schema.fits(&empty),
+        Err(RowFault::EmptyPartition { column: 1 })
+    );
     Ok(())
 }
 
@@ -112,13 +115,28 @@ fn rows_fit_or_the_first_wrong_column_is_named(rt: HostRuntime) -> Result<(), Fa
 fn longs_settle_to_integers(rt: HostRuntime) -> Result<(), Fail> {
     let alloc = rt.alloc();
     let schema = Schema::make(three_columns(alloc)?, Vec::new(alloc))?;
-    let small = row(alloc, Datum::Long(5), Datum::Null, Datum::Long(-2_147_483_648))?;
-    let want = row(alloc, Datum::Long(5), Datum::Null, Datum::Integer(-2_147_483_648))?;
+    let small = row(
+        alloc,
+        Datum::Long(5),
+        Datum::Null,
+        Datum::Long(-2_147_483_648),
+    )?;
+    let want = row(
+        alloc,
+        Datum::Long(5),
+        Datum::Null,
+        Datum::Integer(-2_147_483_648),
+    )?;
     match schema.settle(small) {
         Ok(settled) => assert!(rt; settled == want),
         Err(_) => assert!(rt; false),
     }
-    let large = row(alloc, Datum::Long(5), Datum::Null, Datum::Long(2_147_483_648))?;
+    let large = row(
+        alloc,
+        Datum::Long(5),
+        Datum::Null,
+        Datum::Long(2_147_483_648),
+    )?;
     let came = large.copy(alloc)?;
     match schema.settle(large) {
         Ok(_) => assert!(rt; false),
@@ -134,7 +152,12 @@ fn longs_settle_to_integers(rt: HostRuntime) -> Result<(), Fail> {
 fn rows_are_ordered(rt: HostRuntime) -> Result<(), Fail> {
     let alloc = rt.alloc();
     let null = row(alloc, Datum::Null, Datum::Boolean(false), Datum::Date(1))?;
-    let less = row(alloc, Datum::Long(-1), Datum::Boolean(false), Datum::Date(1))?;
+    let less = row(
+        alloc,
+        Datum::Long(-1),
+        Datum::Boolean(false),
+        Datum::Date(1),
+    )?;
     let more = row(alloc, Datum::Long(-1), Datum::Boolean(true), Datum::Date(0))?;
     assert_eq!(rt; cmp_rows(&null, &less), Ordering::Less);
     assert_eq!(rt; cmp_rows(&less, &more), Ordering::Less);

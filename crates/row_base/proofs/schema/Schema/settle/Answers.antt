@@ -1,4 +1,4 @@
-use Rattle.std.proofs.Common.{◌≡◌, None, Some, length, sym, ◌∙◌, ap}
+use Rattle.std.proofs.Common.{◌≡◌, None, Some, length, sym, ◌∙◌}
 use Rattle.row_base.specs.Schema.{row_fault, settled}
 use Rattle.row_base.proofs.RowLemmas.{fits_schema, no_fault, length-settled, row_fault_is}
 use Rattle.row_base.proofs.schema.Schema.settle.Goals as goal
