@@ -1,12 +1,14 @@
 -- Rows that fit, and settled rows.
-use Rattle.std.proofs.Common.{◌≡◌, ◌≢◌, ℕ, zero, suc, ◌+◌, ◌<◌, ◌==◌, Bool, true, false, cond, List, [], ◌∷◌, length, get_or, take, set, inl, inr, Option, Some, None, refl, sym, ◌∙◌, ap, arith, add-one, add-zero, zero-add}
+use Rattle.std.proofs.Common.{◌≡◌, ◌≢◌, ℕ, zero, suc, ◌+◌, ◌<◌, ◌==◌, Bool, true, false, not, ◌&&◌, cond, List, [], ◌∷◌, length, get_or, take, set, ◌⊎◌, inl, inr, Option, Some, None, refl, sym, ◌∙◌, ap, arith, add-one, add-zero, zero-add}
+use Rattle.std.specs.List.{list_any}
 use Rattle.std.specs.Option.{option_or}
 use Rattle.std.proofs.lemmas.Bool.Decides.{nat_tests}
 use Rattle.row_base.specs.declared.row.Datum.{Datum}
+use Rattle.row_base.specs.declared.row.Datum.TheVariants as datum
 use Rattle.row_base.specs.declared.schema.Column.{Column}
 use Rattle.row_base.specs.declared.schema.RowFault.{RowFault}
 use Rattle.row_base.specs.declared.schema.RowFault.TheVariants as fault
-use Rattle.row_base.specs.Schema.{TableSchema, datum_fault, first_datum_fault, row_fault, FitsSchema, IsRowFault, settled_datum, settled}
+use Rattle.row_base.specs.Schema.{TableSchema, datum_fault, first_datum_fault, row_fault, FitsSchema, IsRowFault, settled_datum, settled, is_of_kind, is_empty_text}
 
 pub length-settled : (cs : List Column) (ds : List Datum) → length (settled cs ds) ≡ length ds
 length-settled [] ds = refl
@@ -153,3 +155,22 @@ row_fault_is s row f e = by (length row == length s.columns) refl e
           here = λ c d. ap (λ k. datum_fault s.partition k (get_or s.columns g.place c) (get_or row g.place d)) (sym (zero-add g.place)) ∙ g.here c d;
           before = λ j c d h. ap (λ k. datum_fault s.partition k (get_or s.columns j c) (get_or row j d)) (sym (zero-add j)) ∙ g.right j c d h;
         })
+
+-- a datum with nothing wrong is a null that its column allows, or of the column's kind
+of_kind : (b e : Bool) (x y : RowFault) → cond (not b) (Some x) (cond e (Some y) None) ≡ None → b ≡ true
+of_kind true e x y h = refl
+of_kind false e x y h = cc
+
+nullable_is : (b : Bool) (x : RowFault) → cond b None (Some x) ≡ None → b ≡ true
+nullable_is true x h = refl
+nullable_is false x h = cc
+
+pub right_datum : (ps : List ℕ) (k : ℕ) (c : Column) (d : Datum) → datum_fault ps k c d ≡ None
+    → ((d ≡ datum.Null) × (c.nullable ≡ true)) ⊎ (is_of_kind c.kind d ≡ true)
+right_datum ps k c datum.Null e = inl (refl, nullable_is c.nullable (fault.Null k) e)
+right_datum ps k c (datum.Long n) e = inr (of_kind (is_of_kind c.kind (datum.Long n)) false (fault.Kind k) (fault.EmptyPartition k) e)
+right_datum ps k c (datum.Integer n) e = inr (of_kind (is_of_kind c.kind (datum.Integer n)) false (fault.Kind k) (fault.EmptyPartition k) e)
+right_datum ps k c (datum.Boolean b) e = inr (of_kind (is_of_kind c.kind (datum.Boolean b)) false (fault.Kind k) (fault.EmptyPartition k) e)
+right_datum ps k c (datum.Text t) e =
+    inr (of_kind (is_of_kind c.kind (datum.Text t)) (is_empty_text (datum.Text t) && list_any (λ p. p == k) ps) (fault.Kind k) (fault.EmptyPartition k) e)
+right_datum ps k c (datum.Date n) e = inr (of_kind (is_of_kind c.kind (datum.Date n)) false (fault.Kind k) (fault.EmptyPartition k) e)

@@ -1,9 +1,8 @@
 //! Columns, schemas, and whether a row fits a schema.
-ghost use Rattle.std.specs.Prelude.{◌≡◌, ◌↔◌, ◌<◌, ◌≤◌, ◌==◌, ◌^◌, [], length, IfOk, IfErr, IsOk, IsTrue, MatchResult, Some, None, if◌then◌else◌};
+ghost use Rattle.std.specs.Prelude.{◌≡◌, ◌↔◌, ◌<◌, ◌≤◌, ◌==◌, ◌^◌, [], length, IfOk, IfErr, IsOk, MatchResult, Some, None, if◌then◌else◌};
 ghost use Rattle.std.specs.Option.{option_map};
-ghost use Rattle.std.specs.List.{list_any, position};
+ghost use Rattle.std.specs.List.{position};
 ghost use Rattle.std.specs.Cmp.Lexicographic.{pointwise};
-ghost use Rattle.row_base.specs.declared.row.Datum.TheVariants as datum;
 ghost use Rattle.row_base.specs.Schema.{first_after, is_named, repeats_name, is_wrong_place, schema_fault, IsSchema, IsSchemaFault, IsRowFault, column_place, is_partition_column, narrowed_number, is_of_kind, is_empty_text, datum_fault, first_datum_fault, row_fault, FitsSchema, settled_datum, settled};
 
 use crate::{Datum, Kind, NoMemory, Row, Text};
