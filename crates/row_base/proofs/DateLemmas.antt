@@ -1,11 +1,11 @@
 -- Dates: the text and the number of a day give each other back.
-use Rattle.std.proofs.Common.{◌≡◌, ◌≢◌, ℕ, zero, suc, ◌+◌, ◌-◌, ◌*◌, ◌/◌, ◌%◌, ◌<◌, ◌≤◌, ◌==◌, ◌&&◌, ◌⊎◌, inl, inr, Bool, true, false, cond, nat_le, List, [], ◌∷◌, length, Option, Some, None, ℤ, pos, negsuc, neg_ℤ, ◌+ℤ◌, ◌-ℤ◌, ◌<ℤ◌, ◌≤ℤ◌, int_le, unsigned_abs, IfSome, IfNone, refl, sym, ◌∙◌, ap, arith}
+use Rattle.std.proofs.Common.{◌≡◌, ◌≢◌, ℕ, zero, suc, ◌+◌, ◌-◌, ◌*◌, ◌/◌, ◌<◌, ◌≤◌, ◌==◌, ◌&&◌, ◌⊎◌, inl, inr, Bool, true, false, cond, nat_le, List, [], ◌∷◌, length, Option, Some, None, ℤ, pos, negsuc, ◌-ℤ◌, ◌<ℤ◌, ◌≤ℤ◌, int_le, unsigned_abs, IfSome, IfNone, refl, sym, ◌∙◌, ap, arith}
 use Rattle.std.specs.Cmp.Lexicographic.{pointwise, bytes_decides}
 use Rattle.std.proofs.lemmas.Bool.Decides.{nat_tests}
 use Rattle.std.specs.Str.{IsAscii}
 use Rattle.std.proofs.lemmas.Int.{ints, by_lt_z}
 use Rattle.std.proofs.lemmas.Str.Ascii.{IsAscii-nil, IsAscii-cons as cons}
-use Rattle.jiff_core.specs.Calendar.{days_in_month, days_in_year, days_from_civil, day_count, IsCivilDate, IsBetween}
+use Rattle.jiff_core.specs.Calendar.{days_in_month, days_in_year, days_from_civil, day_count, IsCivilDate}
 use Rattle.jiff_core.proofs.SignedLemmas.{signed_arith}
 use Rattle.jiff_core.proofs.CalendarLemmas.{days_from_civil-day_count, day_count-lt_year, day_count-lt_month, day_count-day, day_count-next_month, day_count-next_year, day_count-last_of_year, day_count-day_of_year, days_in_month_bounds}
 use borrow.Author.Differences.{up, down}
@@ -85,11 +85,11 @@ count_is : (test : ℕ → Bool) (n k : ℕ) → k ≤ n → ((j : ℕ) → 1 �
 unfolding count_upto
 count_is test zero k h front back = omega arith
 count_is test (suc n) k h front back = elim (cases_le k n) [
-    | inl below ↦ ap (λ b. count_upto test n + cond b 1 0) (back (suc n) (omega arith) (omega arith)) ∙ ap (λ c. c + 0) (count_is test n k below front (λ j low high. back j low (omega arith))) ∙ omega arith
-    | inr above ↦
-        let e : k ≡ suc n = omega arith in
-        count_all test (suc n) (λ j low high. front j low (omega arith)) ∙ sym e
-  ]
+  | inl below ↦ ap (λ b. count_upto test n + cond b 1 0) (back (suc n) (omega arith) (omega arith)) ∙ ap (λ c. c + 0) (count_is test n k below front (λ j low high. back j low (omega arith))) ∙ omega arith
+  | inr above ↦
+      let e : k ≡ suc n = omega arith in
+      count_all test (suc n) (λ j low high. front j low (omega arith)) ∙ sym e
+]
 
 -- ---- the day of a number
 
@@ -121,9 +121,9 @@ year_is y m d h = count_is (λ j. int_le (days_from_civil (pos j) 1 1) (days_fro
   where
     upto_year : (j : ℕ) → 1 ≤ j → j ≤ y → day_count (pos j) 1 1 ≤ day_count (pos y) m d
     upto_year j low high = elim (cases_le y j) [
-        | inl same ↦ let e : j ≡ y = omega arith in rw e (omega (arith, h.2.0, day_count-day_of_year (pos y) m d h.2.0))
-        | inr before ↦ omega (arith, day_count-lt_year (pos j) 1 1 (pos y) m d (first_of j 1 low (omega arith) (omega arith) (omega arith)) h.2.0 (omega (arith, signed_arith)))
-      ]
+      | inl same ↦ let e : j ≡ y = omega arith in rw e (omega (arith, h.2.0, day_count-day_of_year (pos y) m d h.2.0))
+      | inr before ↦ omega (arith, day_count-lt_year (pos j) 1 1 (pos y) m d (first_of j 1 low (omega arith) (omega arith) (omega arith)) h.2.0 (omega (arith, signed_arith)))
+    ]
 
 -- the month of a day's number is the day's
 month_is : (y m d : ℕ) → IsDay y m d → month_of y (days_from_civil (pos y) m d) ≡ m
@@ -134,15 +134,15 @@ month_is y m d h = count_is (λ j. int_le (days_from_civil (pos y) j 1) (days_fr
   where
     upto_month : (j : ℕ) → 1 ≤ j → j ≤ m → day_count (pos y) j 1 ≤ day_count (pos y) m d
     upto_month j low high = elim (cases_le m j) [
-        | inl same ↦ let e : j ≡ m = omega arith in rw e (omega (arith, h.2.0, day_count-day (pos y) m 1 d (omega arith) h.2.0))
-        | inr before ↦ omega (arith, day_count-lt_month (pos y) j 1 m d (first_of y j h.0.0 h.0.1 low (omega arith)) h.2.0 before)
-      ]
+      | inl same ↦ let e : j ≡ m = omega arith in rw e (omega (arith, h.2.0, day_count-day (pos y) m 1 d (omega arith) h.2.0))
+      | inr before ↦ omega (arith, day_count-lt_month (pos y) j 1 m d (first_of y j h.0.0 h.0.1 low (omega arith)) h.2.0 before)
+    ]
 
 day_is : (y m d : ℕ) → IsDay y m d → day_of y m (days_from_civil (pos y) m d) ≡ d
 unfolding day_of
 day_is y m d h =
     let gap : days_from_civil (pos y) m d -ℤ days_from_civil (pos y) m 1 ≡ pos (d - 1) =
-        omega (arith, signed_arith, h.2.0, days_from_civil-day_count (pos y) m d, days_from_civil-day_count (pos y) m 1, day_count-day (pos y) m 1 d (omega arith) h.2.0) in
+    omega (arith, signed_arith, h.2.0, days_from_civil-day_count (pos y) m d, days_from_civil-day_count (pos y) m 1, day_count-day (pos y) m 1 d (omega arith) h.2.0) in
     ap (λ z. unsigned_abs z + 1) gap ∙ omega arith
 
 -- the text of a day's number is the day's
@@ -210,24 +210,35 @@ number_is_day n range =
     let m = month.place in
     let low : day_count (pos y) m 1 ≤ c = omega (arith, signed_arith, le_told (days_from_civil (pos y) m 1) n month.holds, days_from_civil-day_count (pos y) m 1) in
     let year_end : c < day_count (pos y) 1 1 + days_in_year (pos y) = elim (cases_le y 9998) [
-      | inl before ↦ omega (arith, signed_arith, gt_told (days_from_civil (pos (y + 1)) 1 1) n (year.later (y + 1) (omega arith) (omega arith)), days_from_civil-day_count (pos (y + 1)) 1 1,
-          day_count-next_year (pos y) (pos (y + 1)) (omega (arith, signed_arith)) (omega (arith, signed_arith)))
+      | inl before ↦ omega (
+        arith,
+        signed_arith,
+        gt_told (days_from_civil (pos (y + 1)) 1 1) n (year.later (y + 1) (omega arith) (omega arith)),
+        days_from_civil-day_count (pos (y + 1)) 1 1,
+        day_count-next_year (pos y) (pos (y + 1)) (omega (arith, signed_arith)) (omega (arith, signed_arith)),
+      )
       | inr last ↦ let e : y ≡ 9999 = omega (arith, year.high) in
           let top = ap (λ a. day_count (pos a) 12 31) e ∙ last_day in
           omega (arith, signed_arith, range.1, top, day_count-last_of_year (pos y))
     ] in
     let month_end : c < day_count (pos y) m 1 + days_in_month (pos y) m = elim (cases_le m 11) [
-      | inl before ↦ omega (arith, signed_arith, gt_told (days_from_civil (pos y) (m + 1) 1) n (month.later (m + 1) (omega arith) (omega arith)), days_from_civil-day_count (pos y) (m + 1) 1,
-          day_count-next_month (pos y) m month.low)
+      | inl before ↦ omega (
+        arith,
+        signed_arith,
+        gt_told (days_from_civil (pos y) (m + 1) 1) n (month.later (m + 1) (omega arith) (omega arith)),
+        days_from_civil-day_count (pos y) (m + 1) 1,
+        day_count-next_month (pos y) m month.low,
+      )
       | inr last ↦ let e : m ≡ 12 = omega (arith, month.high) in
           let same = ap (λ a. day_count (pos y) a 1) e in
           omega (arith, same, december (pos y) m e, day_count-last_of_year (pos y), day_count-day (pos y) 12 31 1 (omega arith) (omega arith))
     ] in
     let d = c + 1 - day_count (pos y) m 1 in
     let is : IsDay y m d = ((year.low, year.high), (month.low, month.high), (omega arith, omega arith)) in
-    let at : day_count (pos y) m d ≡ c = omega (arith, day_count-day (pos y) m d 1 (omega arith) (omega arith)) in
-    (date_text y m d,
-        record { year = y; month = m; day = d; is_day = is; is_text = refl; is_number = omega (arith, signed_arith, at, days_from_civil-day_count (pos y) m d) })
+    let at : day_count (pos y) m d ≡ c = omega (arith, day_count-day (pos y) m d 1 (omega arith) (omega arith)) in (
+      date_text y m d,
+      record { year = y; month = m; day = d; is_day = is; is_text = refl; is_number = omega (arith, signed_arith, at, days_from_civil-day_count (pos y) m d) },
+    )
 
 pub number_given_back : (n : ℤ) → IsDayNumber n → date_in (text_of_day n) ≡ Some n
 number_given_back n range =

@@ -60,6 +60,7 @@ row_apart = lists_apart datum_cmp datum_apart
 
 -- the test on rows decides their equality
 pub row_decides : (x y : List Datum) → Decides (row_eq x y) (x ≡ y)
-row_decides x y =
-    (λ e. row_apart x y ((Equal-is (row_cmp x y)).0 e),
-        λ e. ap (λ z. is_eq (row_cmp x z)) (sym e) ∙ (Equal-is (row_cmp x x)).1 (tied_itself row_cmp_total x))
+row_decides x y = (
+  λ e. row_apart x y ((Equal-is (row_cmp x y)).0 e),
+  λ e. ap (λ z. is_eq (row_cmp x z)) (sym e) ∙ (Equal-is (row_cmp x x)).1 (tied_itself row_cmp_total x),
+)

@@ -1,5 +1,5 @@
 -- What a schema is, which rows fit it, and the first fault of columns and of rows.
-use Rattle.std.specs.Prelude.{◌≡◌, ◌≢◌, ℕ, ◌+◌, ◌^◌, ◌<◌, ◌≤◌, ◌==◌, nat_lt, nat_le, Bool, true, false, not, ◌||◌, ◌&&◌, if◌then◌else◌, List, [], ◌∷◌, ◌++◌, length, Option, Some, None, ℤ, pos, negsuc, slice_index_or}
+use Rattle.std.specs.Prelude.{◌≡◌, ◌≢◌, ℕ, ◌+◌, ◌^◌, ◌<◌, ◌≤◌, ◌==◌, nat_lt, nat_le, Bool, true, false, not, ◌||◌, ◌&&◌, ◌⊎◌, if◌then◌else◌, List, [], ◌∷◌, ◌++◌, length, Option, Some, None, ℤ, pos, negsuc, take, slice_index, slice_index_or}
 use Rattle.std.specs.List.{list_any, position, All, AllPairs}
 use Rattle.std.specs.Option.{option_map, option_map_or, option_or}
 use Rattle.std.specs.Cmp.Lexicographic.{pointwise}
@@ -23,6 +23,12 @@ abbrev pub first_after : {A : Type 0} → (List A → A → Bool) → List A →
 first_after wrong before [] = None
 first_after wrong before (x ∷ xs) =
     if wrong before x then Some (length before, x) else first_after wrong (before ++ x ∷ []) xs
+
+-- at place k stands the first element that is wrong after those before it
+pub record IsFirstWrong {A : Type 0} (wrong : List A → A → Bool) (xs : List A) (k : ℕ) : Type 0 where
+  pub within : k < length xs
+  pub here : (d : A) → wrong (take k xs) (slice_index_or xs k d) ≡ true
+  pub before : (j : ℕ) (d : A) → j < k → wrong (take j xs) (slice_index_or xs j d) ≡ false
 
 -- a column of this name is among these
 abbrev pub is_named : List Column → List ℕ → Bool
@@ -53,8 +59,8 @@ is_partition_column s place = list_any (λ p. p == place) s.partition
 abbrev pub schema_fault : List Column → List ℕ → Option SchemaFault
 schema_fault columns partition =
     if is_column_count (length columns) then
-        option_or (option_map (λ x. schema.Twice x.0) (first_after repeats_name [] columns))
-        (option_map (λ x. schema.Partition x.1) (first_after (is_wrong_place (length columns)) [] partition))
+    option_or (option_map (λ x. schema.Twice x.0) (first_after repeats_name [] columns))
+    (option_map (λ x. schema.Partition x.1) (first_after (is_wrong_place (length columns)) [] partition))
     else Some schema.Columns
 
 -- what holds of every schema
@@ -65,6 +71,13 @@ pub record IsSchema (s : TableSchema) : Type 0 where
   pub places : All (λ p. p < length s.columns) s.partition
   pub once : AllPairs ◌≢◌ s.partition
   pub data_left : length s.partition < length s.columns
+
+-- what a fault of columns and places says of them
+abbrev pub IsSchemaFault : List Column → List ℕ → SchemaFault → Type 0
+IsSchemaFault columns partition schema.Columns = (length columns ≡ 0) ⊎ (64 < length columns)
+IsSchemaFault columns partition (schema.Twice k) = IsFirstWrong repeats_name columns k
+IsSchemaFault columns partition (schema.Partition p) =
+    (k : ℕ) × IsFirstWrong (is_wrong_place (length columns)) partition k × (slice_index partition k ≡ p)
 
 -- a datum that isn't null is of one kind
 abbrev pub is_of_kind : Kind → Datum → Bool
@@ -104,6 +117,18 @@ row_fault s row =
 pub record FitsSchema (s : TableSchema) (row : List Datum) : Type 0 where
   pub count : length row ≡ length s.columns
   pub each : (k : ℕ) (c : Column) (d : Datum) → k < length row → datum_fault s.partition k (slice_index_or s.columns k c) (slice_index_or row k d) ≡ None
+
+-- the first column that is wrong, and how
+pub record IsFirstWrongDatum (s : TableSchema) (row : List Datum) (f : RowFault) : Type 0 where
+  pub place : ℕ
+  pub count : length row ≡ length s.columns
+  pub within : place < length row
+  pub here : (c : Column) (d : Datum) → datum_fault s.partition place (slice_index_or s.columns place c) (slice_index_or row place d) ≡ Some f
+  pub before : (j : ℕ) (c : Column) (d : Datum) → j < place → datum_fault s.partition j (slice_index_or s.columns j c) (slice_index_or row j d) ≡ None
+
+-- what a fault of a row says of it
+abbrev pub IsRowFault : TableSchema → List Datum → RowFault → Type 0
+IsRowFault s row f = ((f ≡ fault.Count) × (length row ≢ length s.columns)) ⊎ IsFirstWrongDatum s row f
 
 -- a number of 32 bits with a sign
 abbrev pub is_i32 : ℤ → Bool

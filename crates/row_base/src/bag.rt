@@ -11,5 +11,4 @@ pub fn rows_are_counted()
     ensures difference { (r : List Datum) (a b : List (List Datum)) → count_of r (without a b) ≡ count_of r a - count_of r b }
     ensures kept { (test : List Datum → Bool) (r : List Datum) (a : List (List Datum)) → test r ≡ true → count_of r (filter test a) ≡ count_of r a }
     ensures dropped { (test : List Datum → Bool) (r : List Datum) (a : List (List Datum)) → test r ≡ false → count_of r (filter test a) ≡ 0 }
-{
-}
+{}

@@ -42,11 +42,10 @@ pub fn write_date(alloc: Global, day: i32) -> Result<Text, NoMemory>
 pub fn dates_give_back()
     ensures texts { (bytes : List ℕ) (n : ℤ) → date_in bytes ≡ Some n → text_of_day n ≡ bytes }
     ensures numbers { (n : ℤ) → IsDayNumber n → date_in (text_of_day n) ≡ Some n }
-{
-}
+{}
 
-#[tactic(auto, unfolding(crate::specs::Dates::date_in))]
 /// The day that ten bytes name.
+#[tactic(auto, unfolding(crate::specs::Dates::date_in))]
 fn day_in(bytes: &[u8]) -> Option<i32>
     requires { length bytes.now ≡ 10 }
     ensures { result ≡ date_in bytes.now }
@@ -65,8 +64,8 @@ fn two_digit_number(tens: u8, ones: u8) -> u32
     10 * u32::from(tens.saturating_sub(b'0')) + u32::from(ones.saturating_sub(b'0'))
 }
 
-#[tactic(auto, unfolding(crate::specs::Dates::named_day))]
 /// The number of a day, where these bytes are its text.
+#[tactic(auto, unfolding(crate::specs::Dates::named_day))]
 fn day_named(bytes: &[u8], year: u32, month: u32, day: u32) -> Option<i32>
     ensures { result ≡ named_day bytes.now year month day }
 {

@@ -8,6 +8,8 @@ mod memory;
 mod order;
 mod row;
 mod schema;
+#[cfg(test)]
+mod tests;
 mod text;
 
 pub use bag::rows_are_counted;
@@ -15,5 +17,5 @@ pub use date::{dates_give_back, read_date, write_date};
 pub use memory::NoMemory;
 pub use order::{cmp_rows, row_order_is_total};
 pub use row::{Datum, Kind, Row, Rows, ScannedFile};
-pub use schema::{Column, MAX_COLUMNS, RowFault, Schema, SchemaFault, Unsettled};
-pub use text::Text;
+pub use schema::{Column, Columns, MAX_COLUMNS, RowFault, Schema, SchemaFault, Unsettled};
+pub use text::{Text, Texts};

@@ -22,5 +22,4 @@ pub fn row_order_is_total()
     ensures total { IsTotalOrder row_cmp }
     ensures apart { IsToldApart row_cmp }
     ensures same { (a b : List Datum) → Decides (row_eq a b) (a ≡ b) }
-{
-}
+{}

@@ -1,10 +1,9 @@
 //! Columns, schemas, and whether a row fits a schema.
-ghost use Rattle.std.specs.Prelude.{◌≡◌, ◌↔◌, ◌<◌, ◌≤◌, ◌==◌, ◌^◌, [], length, IfOk, IfErr, IsOk, IsTrue, MatchResult, Some, None, if◌then◌else◌};
+ghost use Rattle.std.specs.Prelude.{◌≡◌, ◌↔◌, ◌<◌, ◌≤◌, ◌==◌, ◌^◌, [], length, IfOk, IfErr, IsOk, MatchResult, Some, None, if◌then◌else◌};
 ghost use Rattle.std.specs.Option.{option_map};
-ghost use Rattle.std.specs.List.{list_any, position};
+ghost use Rattle.std.specs.List.{position};
 ghost use Rattle.std.specs.Cmp.Lexicographic.{pointwise};
-ghost use Rattle.row_base.specs.declared.row.Datum.TheVariants as datum;
-ghost use Rattle.row_base.specs.Schema.{first_after, is_named, repeats_name, is_wrong_place, schema_fault, IsSchema, column_place, is_partition_column, narrowed_number, is_of_kind, is_empty_text, datum_fault, first_datum_fault, row_fault, FitsSchema, settled_datum, settled};
+ghost use Rattle.row_base.specs.Schema.{first_after, is_named, repeats_name, is_wrong_place, schema_fault, IsSchema, IsSchemaFault, IsRowFault, column_place, is_partition_column, narrowed_number, is_of_kind, is_empty_text, datum_fault, first_datum_fault, row_fault, FitsSchema, settled_datum, settled};
 
 use crate::{Datum, Kind, NoMemory, Row, Text};
 use std::alloc::Global;
@@ -33,6 +32,52 @@ impl Column {
             kind: self.kind,
             nullable: self.nullable,
         })
+    }
+}
+
+/// A list of columns, which need not make a schema.
+#[derive(Debug, Drop)]
+pub struct Columns {
+    columns: Vec<Column>,
+}
+
+impl Model for Columns {
+    ghost use Rattle.std.specs.Prelude.{List};
+    ghost use Rattle.row_base.specs.declared.schema.Column.{Column};
+
+    ghost Value = { List Column };
+
+    ghost view = { λ a. a.columns.items };
+}
+
+impl Columns {
+    /// The list of these columns.
+    pub fn make(columns: Vec<Column>) -> Columns
+        ensures { result ≡ columns.items }
+    {
+        Columns { columns }
+    }
+
+    /// The columns.
+    pub fn as_slice(&self) -> &[Column]
+        ensures { result.now ≡ self.now }
+    {
+        self.columns.as_slice()
+    }
+
+    /// The columns, handed over.
+    pub fn into_vec(self) -> Vec<Column>
+        ensures { result.items ≡ self }
+    {
+        self.columns
+    }
+
+    /// An equal list. The bytes of the names are shared.
+    pub fn copy(&self, alloc: Global) -> Result<Columns, NoMemory>
+        ensures { IfOk result (λ c. c ≡ self.now) }
+    {
+        let columns = copy_columns(alloc, self.columns.as_slice())?;
+        Ok(Columns { columns })
     }
 }
 
@@ -98,6 +143,7 @@ impl Schema {
     pub fn make(columns: Vec<Column>, partition: Vec<u32>) -> Result<Schema, SchemaFault>
         ensures value { IfOk result (λ s. s ≡ record { columns = columns.items; partition = partition.items }) }
         ensures valid { IsOk result ↔ IsSchema (record { columns = columns.items; partition = partition.items }) }
+        ensures wrong { IfErr result (IsSchemaFault columns.items partition.items) }
         ensures fault { MatchResult result (λ _. schema_fault columns.items partition.items ≡ None) (λ e. schema_fault columns.items partition.items ≡ Some e) }
     {
         match first_fault(columns.as_slice(), partition.as_slice()) {
@@ -161,6 +207,7 @@ impl Schema {
     /// wrong. It takes no memory.
     pub fn fits(&self, row: &Row) -> Result<(), RowFault>
         ensures fits { IsOk result ↔ FitsSchema self.now row.now }
+        ensures wrong { IfErr result (IsRowFault self.now row.now) }
         ensures fault { MatchResult result (λ _. row_fault self.now row.now ≡ None) (λ f. row_fault self.now row.now ≡ Some f) }
     {
         match self.fault_of(row) {
@@ -175,6 +222,7 @@ impl Schema {
     pub fn settle(&self, row: Row) -> Result<Row, Unsettled>
         ensures ok { IfOk result (λ r. r ≡ settled self.now.columns row) }
         ensures fits { IsOk result ↔ FitsSchema self.now (settled self.now.columns row) }
+        ensures wrong { IfErr result (λ u. IsRowFault self.now (settled self.now.columns row) u.fault) }
         ensures back { IfErr result (λ u. u.row ≡ row) }
         ensures fault { MatchResult result (λ _. row_fault self.now (settled self.now.columns row) ≡ None) (λ u. row_fault self.now (settled self.now.columns row) ≡ Some u.fault) }
     {

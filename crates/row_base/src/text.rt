@@ -132,3 +132,51 @@ impl Hash for Text {
         self.text.hash(state);
     }
 }
+
+/// A list of texts.
+#[derive(Debug, Drop)]
+pub struct Texts {
+    texts: Vec<Text>,
+}
+
+impl Model for Texts {
+    ghost use Rattle.std.specs.Prelude.{List, ℕ};
+
+    ghost Value = { List (List ℕ) };
+
+    ghost view = { λ a. a.texts.items };
+}
+
+impl Texts {
+    /// The list of these texts.
+    pub fn make(texts: Vec<Text>) -> Texts
+        ensures { result ≡ texts.items }
+    {
+        Texts { texts }
+    }
+
+    /// The texts.
+    pub fn as_slice(&self) -> &[Text]
+        ensures { result.now ≡ self.now }
+    {
+        self.texts.as_slice()
+    }
+
+    /// The texts, handed over.
+    pub fn into_vec(self) -> Vec<Text>
+        ensures { result.items ≡ self }
+    {
+        self.texts
+    }
+
+    /// An equal list. The bytes of the texts are shared.
+    pub fn copy(&self, alloc: Global) -> Result<Texts, NoMemory>
+        ensures { IfOk result (λ t. t ≡ self.now) }
+    {
+        let mut texts = Vec::with_capacity(alloc, self.texts.len())?;
+        for text in self.texts.as_slice() {
+            texts.push(text.copy()?)?;
+        }
+        Ok(Texts { texts })
+    }
+}

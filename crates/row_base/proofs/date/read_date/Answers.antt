@@ -1,4 +1,4 @@
-use Rattle.std.proofs.Common.{◌≡◌, ◌≢◌, length, None, sym, ◌∙◌, ap}
+use Rattle.std.proofs.Common.{length, None, sym, ◌∙◌, ap}
 use Rattle.row_base.specs.Dates.{date_in}
 use Rattle.row_base.proofs.DateLemmas.{unread, told_date, told_none}
 use Rattle.row_base.proofs.date.read_date.Goals as goal

@@ -1,4 +1,4 @@
-use Rattle.std.proofs.Common.{◌≡◌, Some, w32, ◌∙◌, ap, subst, sym}
+use Rattle.std.proofs.Common.{◌≡◌, w32, ◌∙◌, ap, subst, sym}
 use Rattle.std.proofs.lemmas.Int.{to_z-of_z}
 use Rattle.std.proofs.lemmas.Result.{IfOk-weaker}
 use Rattle.row_base.specs.Dates.{date_in, text_of_day, IsDateText}

@@ -1,6 +1,6 @@
-use Rattle.std.proofs.Common.{◌≡◌, None, false, true}
+use Rattle.std.proofs.Common.{◌≡◌, None, Some}
 use Rattle.row_base.specs.Schema.{schema_fault}
-use Rattle.row_base.proofs.SchemaLemmas.{schema_sound, schema_complete}
+use Rattle.row_base.proofs.SchemaLemmas.{schema_sound, schema_complete, schema_fault_is}
 use Rattle.row_base.proofs.schema.Schema.make.Goals as goal
 
 pub invariant_of-result : goal.invariant_of-result
@@ -16,3 +16,8 @@ pub returns-in-None-clause-valid : goal.returns-in-None-clause-valid
 returns-in-None-clause-valid c =
     let e : schema_fault c.args.columns.items c.args.partition.items ≡ None = cc in
     (λ _. schema_sound c.args.columns.items c.args.partition.items e, λ s. cc)
+
+pub returns-in-Some-clause-wrong : goal.returns-in-Some-clause-wrong
+returns-in-Some-clause-wrong c =
+    let e : schema_fault c.args.columns.items c.args.partition.items ≡ Some c.in-Some.fault = cc in
+    schema_fault_is c.args.columns.items c.args.partition.items c.in-Some.fault e

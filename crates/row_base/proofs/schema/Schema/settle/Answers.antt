@@ -1,6 +1,6 @@
-use Rattle.std.proofs.Common.{◌≡◌, None, length, sym, ◌∙◌, ap}
+use Rattle.std.proofs.Common.{◌≡◌, None, Some, length, sym, ◌∙◌}
 use Rattle.row_base.specs.Schema.{row_fault, settled}
-use Rattle.row_base.proofs.RowLemmas.{fits_schema, no_fault, length-settled}
+use Rattle.row_base.proofs.RowLemmas.{fits_schema, no_fault, length-settled, row_fault_is}
 use Rattle.row_base.proofs.schema.Schema.settle.Goals as goal
 
 pub returns-in-Some-clause-fits : goal.returns-in-Some-clause-fits
@@ -18,3 +18,8 @@ pub returns-clause-fits : goal.returns-clause-fits
 returns-clause-fits c =
     let e : row_fault c.args.self.now (settled c.args.self.now.columns c.args.row) ≡ None = cc in
     (λ _. fits_schema c.args.self.now (settled c.args.self.now.columns c.args.row) e, λ f. cc)
+
+pub returns-in-Some-clause-wrong : goal.returns-in-Some-clause-wrong
+returns-in-Some-clause-wrong c =
+    let e : row_fault c.args.self.now (settled c.args.self.now.columns c.args.row) ≡ Some c.in-Some.fault = cc in
+    row_fault_is c.args.self.now (settled c.args.self.now.columns c.args.row) c.in-Some.fault e
