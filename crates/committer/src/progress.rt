@@ -3,6 +3,7 @@ ghost use Rattle.std.specs.Prelude.{◌≡◌, ◌+◌, ◌-◌, ◌<◌, ◌≤
 ghost use Rattle.table_rules.specs.Names.{commit_text};
 ghost use Rattle.committer.specs.Names.{called_now};
 
+use crate::AttemptFault;
 use edge_api::{CallKind, Called, Name};
 use std::alloc::{AllocError, Global};
 use table_rules::commit_name;
@@ -57,12 +58,13 @@ impl Commit {
         Ok(Commit { version, name })
     }
 
-    /// A call of this kind that speaks of the commit.
-    pub fn called(self, kind: CallKind) -> Called
-        ensures { result ≡ record { kind = kind; name = self.name } }
+    /// A call of this kind that speaks of the commit was answered by a fault.
+    pub fn faulted<C>(self, kind: CallKind) -> AttemptFault<C>
+        ensures { result ≡ AttemptFault.Fault (record { kind = kind; name = self.name }) }
     {
         let name = self.name;
-        Called { kind, name }
+        let call = Called { kind, name };
+        AttemptFault::Fault { call }
     }
 }
 

@@ -82,19 +82,16 @@ impl<J: Judge> Attempts<J> {
         }
     }
 
-    /// The winner of the attempt that is made is judged.
-    fn judged(&mut self, version: u64, winner: Body) -> Ahead<J::Clash>
+    /// The commit that won this version is judged.
+    fn judged(&mut self, winner: u64, body: Body) -> Ahead<J::Clash>
         ensures ready { result.call ≡ call_at result.stage }
         ensures falls { left_at self.new.progress result.stage < 3 * self.old.progress.left + 1 }
         ensures leads { (es : Entries) (o : Ending (Lost J J.Clash) (Won J)) → RestBy J.bodies J.judges self.new result.stage es o
-            → JudgedBy J.bodies J.judges self.old version winner es o }
+            → JudgedBy J.bodies J.judges self.old winner body es o }
     {
-        match self.judge.judge(winner) {
-            Verdict::Clear(winner) => self.lost_to(winner),
-            Verdict::Clash(clash) => Ahead::failed(AttemptFault::Conflict {
-                winner: version,
-                clash,
-            }),
+        match self.judge.judge(body) {
+            Verdict::Clear(body) => self.lost_to(body),
+            Verdict::Clash(clash) => Ahead::failed(AttemptFault::Conflict { winner, clash }),
         }
     }
 
@@ -142,9 +139,7 @@ impl<J: Judge> Attempts<J> {
                     self.judged(put.commit.version, found)
                 }
             }
-            Answer::Missing => Ahead::failed(AttemptFault::Fault {
-                call: put.commit.called(CallKind::PutNew),
-            }),
+            Answer::Missing => Ahead::failed(put.commit.faulted(CallKind::PutNew)),
             _ => Ahead::failed(AttemptFault::OutcomeUnknown {
                 version: put.commit.version,
             }),
@@ -161,9 +156,7 @@ impl<J: Judge> Attempts<J> {
         match answer {
             Answer::Body(winner) => self.judged(commit.version, winner),
             Answer::Missing => Ahead::failed(AttemptFault::LogGone { name: commit.name }),
-            _ => Ahead::failed(AttemptFault::Fault {
-                call: commit.called(CallKind::Get),
-            }),
+            _ => Ahead::failed(commit.faulted(CallKind::Get)),
         }
     }
 

@@ -1,4 +1,4 @@
-use Rattle.std.proofs.Common.{arith, ◌≡◌, suc, ◌+◌, ◌-◌}
+use Rattle.std.proofs.Common.{arith, ◌≡◌, suc, ◌+◌, ◌-◌, [], ◌∷◌, ◌++◌}
 use Rattle.committer.specs.Machine.{terms_of}
 use Rattle.committer.proofs.Same.{same_attempts}
 use Rattle.committer.proofs.attempts.Attempts.lost_to.Goals as goal
@@ -6,7 +6,8 @@ use Rattle.committer.proofs.attempts.Attempts.lost_to.Goals as goal
 pub returns-clause-leads : goal.returns-clause-leads
 returns-clause-leads g c = λ es o h.
     let before = c.args.self.now in
-    same_attempts g.J.Judge.bodies g.J.Judge.judges (terms_of before.progress) _ _ _ _ _ _ before.judge es o
+    same_attempts g.J.Judge.bodies g.J.Judge.judges (terms_of before.progress) (suc (before.progress.left - 1)) before.progress.left (before.progress.lost + 1) (suc before.progress.lost)
+    c.push.new.self.items (before.winners.items ++ c.args.winner ∷ []) before.judge es o
     (let e : suc (before.progress.left - 1) ≡ before.progress.left = omega arith in e)
     (let e : before.progress.lost + 1 ≡ suc before.progress.lost = omega arith in e)
     c.in-Ok.ensures.items
