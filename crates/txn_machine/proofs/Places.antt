@@ -1,5 +1,5 @@
 -- Where a statement stands is told by its next call.
-use Rattle.std.proofs.Common.{◌≡◌, Bool, true, false, ℕ, List, [], ◌∷◌, refl, sym, ◌∙◌, ap, subst}
+use Rattle.std.proofs.Common.{◌≡◌, Bool, true, false, ℕ, ◌<◌, List, [], ◌∷◌, length, refl, sym, ◌∙◌, ap, subst, arith}
 use Rattle.std.specs.Prelude.{Option, Some, None, IfSome}
 use Rattle.edge_api.specs.declared.call.Call.{Call}
 use Rattle.edge_api.specs.declared.call.Tag.{Tag}
@@ -11,13 +11,16 @@ use Rattle.edge_api.specs.Actor.{event_of}
 use Rattle.op_types.specs.declared.reply.Reply.{Reply}
 use Rattle.call_phases.specs.Phases.{Entries}
 use Rattle.committer.specs.Machine as attempts
+use Rattle.committer.specs.declared.progress.Progress.{Progress}
+use Rattle.committer.specs.declared.stage.Stage.{Stage as Attempt}
+use Rattle.committer.specs.declared.stage.Stage.TheVariants as attempt
 use Rattle.txn_machine.specs.declared.stage.Plan.{Plan}
 use Rattle.txn_machine.specs.declared.stage.Stage.{Stage}
 use Rattle.txn_machine.specs.declared.stage.Stage.TheVariants as stage
 use Rattle.txn_machine.specs.declared.txn.Txn.{Txn}
 use Rattle.txn_machine.specs.Machine.{Rest, Follows, FedTo, call_of, first_get}
 use Rattle.txn_machine.specs.Place.{place_of, place_of_put, place_of_files, place_of_attempts}
-use Rattle.txn_machine.specs.Txn.{Asks, Goes}
+use Rattle.txn_machine.specs.Txn.{Asks, Goes, LeftBy, IsNothingLeft}
 
 files_done : (paths : List (List ℕ)) → first_get paths ≡ None → place_of_files paths ≡ place.Done
 files_done [] is = refl
@@ -58,6 +61,28 @@ not_done (stage.Files f) c is done = files_not f.left.items c is done
 not_done (stage.Data d) c is done = cc
 not_done (stage.Attempting a) c is done = attempts_not (attempts.call_of a.attempts) c is done
 not_done (stage.Done r) c is done = cc
+
+files_left : (paths : List (List ℕ)) → LeftBy (length paths) (first_get paths)
+files_left [] = refl
+files_left (p ∷ ps) = omega arith
+
+attempts_left : {C : Type 0} (p : Progress) (s : Attempt C) → LeftBy (attempts.left_at p s) (attempts.call_at s)
+attempts_left p (attempt.Clock r) = omega arith
+attempts_left p (attempt.Put put) = omega arith
+attempts_left p (attempt.ReadBack put) = omega arith
+attempts_left p (attempt.Winner c) = omega arith
+attempts_left p (attempt.Landed version now) = refl
+attempts_left p (attempt.Failed f) = refl
+
+-- calls are left exactly where there is a next one
+pub nothing_left : (p : Plan) (s : Stage) → IsNothingLeft p s (call_of s)
+nothing_left p (stage.Start s) = omega arith
+nothing_left p (stage.Listing l) = omega arith
+nothing_left p (stage.Loading l) = omega arith
+nothing_left p (stage.Files f) = files_left f.left.items
+nothing_left p (stage.Data d) = omega arith
+nothing_left p (stage.Attempting a) = attempts_left a.attempts.progress a.attempts.stage
+nothing_left p (stage.Done r) = refl
 
 -- what the statement was fed leads on
 pub fed_leads : (old self : Txn) (tag : Tag) (call : Call) (input : Fed) (new : Txn) → Asks old tag call self → new.plan ≡ self.plan

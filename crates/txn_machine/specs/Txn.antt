@@ -10,9 +10,13 @@ use Rattle.txn_machine.specs.declared.stage.Stage.{Stage}
 use Rattle.txn_machine.specs.declared.txn.Txn.{Txn}
 use Rattle.txn_machine.specs.Machine.{Rest, EndsOpen, call_of, left_of}
 
+-- calls are left exactly where there is a next one
+abbrev pub LeftBy : ℕ → Option Call → Type 0
+LeftBy n None = n ≡ 0
+LeftBy n (Some call) = 0 < n
+
 abbrev pub IsNothingLeft : Plan → Stage → Option Call → Type 0
-IsNothingLeft p s None = left_of p s ≡ 0
-IsNothingLeft p s (Some call) = 0 < left_of p s
+IsNothingLeft p s o = LeftBy (left_of p s) o
 
 -- its next call is made ready
 pub record IsReady (t : Txn) : Type 0 where

@@ -26,7 +26,7 @@ use committer::{AttemptFault, Attempts, Landed};
 use edge_api::{Answer, Body, Call, CallKind, Called, Fed, Listed, Name};
 use line_texts::{write_add, write_columns, write_rows};
 use op_types::{CheckpointOutcome, Clash, Feature, ObjectFault, Refusal, Reply, Statement, TableSpec};
-use row_base::{cmp_rows, Column, NoMemory, Row, Rows, ScannedFile, Text};
+use row_base::{cmp_rows, row_order_is_total, Column, NoMemory, Row, Rows, ScannedFile, Text};
 use snapshot_replay::State;
 use std::alloc::{AllocError, Global};
 use std::collections::VecDeque;
@@ -51,6 +51,7 @@ fn all_rows(alloc: Global, files: Vec<ScannedFile>) -> Result<Vec<Row>, AllocErr
 fn sort_rows(rows: &mut [Row])
     ensures { Sorts rows.old rows.new }
 {
+    row_order_is_total();
     rows.sort_unstable_by(|a, b| cmp_rows(a, b));
 }
 
