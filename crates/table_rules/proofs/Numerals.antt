@@ -58,6 +58,12 @@ value-five_or_more n small = elim (cases_lt n 100000) [
   | inr over ↦ rw (le-ltb n 100000 over) (decimal_is_IsNumeral n (omega arith)).1
 ]
 
+pub digits-five_or_more : (n : ℕ) → n < 2 ^ 32 → AllDigits 10 (five_or_more n)
+digits-five_or_more n small = elim (cases_lt n 100000) [
+  | inl under ↦ rw (lt-ltb n 100000 under) (digits-padded 5 n)
+  | inr over ↦ rw (le-ltb n 100000 over) (decimal_is_IsNumeral n (omega arith)).0.1
+]
+
 -- the test for digits
 tells_by_test : IsDigitsTest (λ ds. list_all is_ascii_digit ds ≡ true)
 tells_by_test = search rules
