@@ -1,6 +1,6 @@
 -- Two identifiers of statements that are one text are one number.
-use Rattle.std.proofs.Common.{◌≡◌, ℕ, zero, suc, ◌+◌, ◌*◌, ◌-◌, ◌/◌, ◌%◌, ◌^◌, ◌<◌, ◌≤◌, List, [], ◌∷◌, length, All, Bool, true, false, if◌then◌else◌, Some, None, inl, refl, subst, sym, ap, ◌∙◌, arith}
-use Rattle.std.specs.Int.{byte_at, bytes_high_first, to_be_bytes, w128}
+use Rattle.std.proofs.Common.{◌≡◌, ℕ, zero, suc, ◌+◌, ◌*◌, ◌/◌, ◌%◌, ◌^◌, ◌<◌, List, length, All, Bool, true, false, if◌then◌else◌, Some, inl, refl, subst, sym, ap, ◌∙◌, arith}
+use Rattle.std.specs.Int.{byte_at, bytes_high_first}
 use Rattle.std.proofs.lemmas.Nat.{same_from_place}
 use Rattle.std.proofs.lemmas.List.Elements.{All-cons}
 use Rattle.std.proofs.Math.Arith.{mod-mul}

@@ -1,5 +1,5 @@
 -- What tells the names of a table apart.
-use Rattle.std.proofs.Common.{◌≡◌, ◌≢◌, ℕ, Bool, true, false, if◌then◌else◌, ◌+◌, ◌*◌, ◌%◌, ◌^◌, ◌<◌, ◌≤◌, List, [], ◌∷◌, ◌++◌, length, take, drop, codes, get_or, All, nat_lt, ◌&&◌, Option, Some, None, refl, sym, ap, ◌∙◌, append_assoc, length-append, arith}
+use Rattle.std.proofs.Common.{◌≡◌, ◌≢◌, ℕ, Bool, true, false, if◌then◌else◌, ◌^◌, ◌<◌, List, [], ◌∷◌, ◌++◌, length, take, drop, codes, get_or, All, nat_lt, ◌&&◌, Option, Some, None, refl, sym, ap, ◌∙◌, append_assoc, length-append, arith}
 use Rattle.std.specs.Str.{bytes_eq}
 use Rattle.std.specs.List.{list_all}
 use Rattle.std.specs.Str.Parse.{digits_value, AllDigits}
@@ -8,12 +8,10 @@ use Rattle.std.proofs.lemmas.Str.Parse.{digit_at}
 use Rattle.std.proofs.lemmas.Bool.{false_from_ne_true, and_parts, ltb-true}
 use Rattle.std.proofs.lemmas.List.{take_at, drop_at, take-append-drop, get_or_default}
 use Rattle.std.proofs.lemmas.Slice.Eq.{bytes_eq-Decides}
-use Rattle.edge_api.specs.declared.call.Tag.{Tag}
-use Rattle.table_rules.specs.declared.log.LogName.{LogName}
 use Rattle.table_rules.specs.declared.log.LogName.TheVariants.{Commit, CheckpointJson, CheckpointOther, Hint, OtherLog}
 use Rattle.table_rules.specs.Digits.{padded, five_or_more, number_in}
-use Rattle.table_rules.specs.Names.{log_prefix, commit_text, after, between, holds_of, is_id, is_id_or_part, of_version, with_version, in_log, behind_prefix, log_name, id_number, id_text, statement_text, data_text}
-use Rattle.table_rules.specs.Told.{CommitsDiffer, CommitIsRead, OnlyCommitIsRead, CommitIsInLog, DataIsOutside, DataIsNoCommit, IsTag, DataDiffer, IsGraphic, DataIsGraphic}
+use Rattle.table_rules.specs.Names.{log_prefix, after, between, holds_of, is_id, is_id_or_part, of_version, with_version, in_log, behind_prefix, id_number, id_text, statement_text}
+use Rattle.table_rules.specs.Told.{CommitsDiffer, CommitIsRead, OnlyCommitIsRead, CommitIsInLog, DataIsOutside, DataIsNoCommit, DataDiffer, IsGraphic, DataIsGraphic}
 use Rattle.table_rules.proofs.Numerals.{padded_same, length-padded, number-padded, number_is, some_then, value-five_or_more, digits-five_or_more}
 use Rattle.table_rules.proofs.Ids.{same_id, same_parts, id_small, length-id, id_graphic}
 
