@@ -1,15 +1,16 @@
 -- Texts read back, and nothing else reads.
-use Rattle.std.proofs.Common.{◌≡◌, ◌≢◌, ℕ, zero, suc, ◌+◌, ◌<◌, ◌≤◌, ◌^◌, ◌==◌, ◌&&◌, ◌||◌, not, Bool, true, false, cond, if◌then◌else◌, nat_lt, nat_eq, List, [], ◌∷◌, ◌++◌, length, map, take, drop, get_or, codes, All, Option, Some, None, option_map, ℤ, pos, negsuc, refl, sym, ap, ◌∙◌, subst, append_assoc, lit<, arith, inl, inr, rules}
-use Rattle.std.specs.List.{flat_map, list_all, join_with_byte, slice_split, starts_with}
+use Rattle.std.proofs.Common.{◌≡◌, ℕ, suc, ◌<◌, ◌≤◌, ◌^◌, ◌==◌, not, Bool, true, false, if◌then◌else◌, nat_lt, nat_eq, List, [], ◌∷◌, ◌++◌, length, map, drop, get_or, codes, All, Option, Some, None, option_map, ℤ, pos, negsuc, refl, sym, ap, ◌∙◌, append_assoc, lit<, lit≤, arith, inl, inr}
+use Rattle.std.specs.List.{flat_map, list_all, join_with_byte, starts_with}
 use Rattle.std.specs.Str.{bytes_eq, is_utf8}
 use Rattle.std.specs.Str.Parse.{AllDigits}
 use Rattle.std.specs.Fmt.{decimal, signed_decimal}
-use Rattle.std.proofs.lemmas.Bool.{and_parts, ltb-true, eq-eqb, ne_eqb, eqb-true, not-true, cond-true}
-use Rattle.std.proofs.lemmas.List.{append-nil, get_or_default}
-use Rattle.std.proofs.lemmas.List.Elements.{All-cons, All-append}
-use Rattle.std.proofs.lemmas.List.Splits.{slice_split_none, slice_split_at, length-slice_split, join_with_byte-slice_split}
+use Rattle.std.proofs.lemmas.Bool.{and_parts, and_from, cases_lt, not_from_false, ltb-true, eq-eqb, ne_eqb, eqb-true, not-true, cond-true}
+use Rattle.std.proofs.lemmas.List.{get_or_default, get_or_past}
+use Rattle.std.proofs.lemmas.List.Elements.{All-cons, All-append, All-head, All-tail}
+use Rattle.std.proofs.lemmas.List.Splits.{slice_split_none, slice_split_at, join_with_byte-slice_split}
 use Rattle.std.proofs.lemmas.Slice.Eq.{bytes_eq-Decides, starts_is}
 use Rattle.std.proofs.lemmas.Bool.Decides.{Decides-eqb}
+use Rattle.std.proofs.lemmas.Str.{is_utf8-from_IsUtf8, IsUtf8-from_ascii}
 use Rattle.std.proofs.lemmas.Str.Parse.{digit_at}
 use Rattle.std.proofs.lemmas.Fmt.{decimal_is_IsNumeral}
 use Rattle.row_base.specs.declared.row.Datum.{Datum}
@@ -230,3 +231,23 @@ unfolding path_of_text text_of_add
 path_is_written text path e =
     let o = only_written path_of_line (pieces 10 text) path e in
     ap (λ xs. xs ++ 10 ∷ []) (path_line o.0 path o.1) ∙ sym o.2 ∙ join_with_byte-slice_split 10 text
+
+-- texts of graphic characters of ASCII are words and paths
+graphic_lacks : (c : ℕ) (text : List ℕ) → c ≤ 32 → All (λ b. (32 < b) × (b < 127)) text → list_all (λ b. not (b == c)) text ≡ true
+graphic_lacks c [] low h = refl
+graphic_lacks c (b ∷ bs) low h =
+    let first = All-head (λ b. (32 < b) × (b < 127)) b bs h in
+    and_from (not (b == c)) (list_all (λ b. not (b == c)) bs) (not_from_false (b == c) (ne_eqb b c (λ e. omega (arith, first)))) (graphic_lacks c bs low (All-tail (λ b. (32 < b) × (b < 127)) b bs h))
+
+graphic_utf8 : (text : List ℕ) → All (λ b. (32 < b) × (b < 127)) text → is_utf8 text ≡ true
+graphic_utf8 text h =
+    is_utf8-from_IsUtf8 text (IsUtf8-from_ascii text (λ i. elim (cases_lt i (length text)) [
+      | inl within ↦ omega (arith, h i 0 within)
+      | inr past ↦ omega (arith, get_or_past text i 0 past)
+    ]))
+
+pub graphic_is_path : (text : List ℕ) → All (λ b. (32 < b) × (b < 127)) text → is_path text ≡ true
+graphic_is_path text h = and_from (is_utf8 text) (list_all (λ b. not (b == 10)) text) (graphic_utf8 text h) (graphic_lacks 10 text (lit≤ tt) h)
+
+pub graphic_is_word : (text : List ℕ) → All (λ b. (32 < b) × (b < 127)) text → is_word text ≡ true
+graphic_is_word text h = and_from (is_path text) (list_all (λ b. not (b == 32)) text) (graphic_is_path text h) (graphic_lacks 32 text (lit≤ tt) h)

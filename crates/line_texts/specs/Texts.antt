@@ -1,7 +1,7 @@
 -- The texts of commits and data files, line by line. A commit that makes a table has the line 'columns' with a name behind
 -- each space; one that appends a file has the line 'add' with the file's path; a data file has a line for each row, its
 -- numbers with commas between them.
-use Rattle.std.specs.Prelude.{ℕ, ◌==◌, ◌&&◌, ◌||◌, not, nat_lt, nat_eq, Bool, false, if◌then◌else◌, List, [], ◌∷◌, ◌++◌, map, length, drop, codes, Option, Some, None, option_map}
+use Rattle.std.specs.Prelude.{ℕ, ◌==◌, ◌&&◌, not, nat_lt, nat_eq, Bool, false, if◌then◌else◌, List, [], ◌∷◌, ◌++◌, map, length, drop, codes, Option, Some, None, option_map}
 use Rattle.std.specs.List.{flat_map, list_all, starts_with, join_with_byte}
 use Rattle.std.specs.Str.{bytes_eq, is_utf8}
 use Rattle.std.specs.Fmt.{signed_decimal}

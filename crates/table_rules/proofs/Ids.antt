@@ -1,14 +1,16 @@
 -- Two identifiers of statements that are one text are one number.
-use Rattle.std.proofs.Common.{◌≡◌, ℕ, zero, suc, ◌+◌, ◌*◌, ◌-◌, ◌/◌, ◌%◌, ◌^◌, ◌<◌, ◌≤◌, List, [], ◌∷◌, length, All, Some, None, inl, refl, sym, ap, ◌∙◌, arith}
-use Rattle.std.specs.Int.{byte_at, bytes_high_first, to_be_bytes, w128}
+use Rattle.std.proofs.Common.{◌≡◌, ℕ, zero, suc, ◌+◌, ◌*◌, ◌/◌, ◌%◌, ◌^◌, ◌<◌, List, length, All, Bool, true, false, if◌then◌else◌, Some, inl, refl, subst, sym, ap, ◌∙◌, arith}
+use Rattle.std.specs.Int.{byte_at, bytes_high_first}
 use Rattle.std.proofs.lemmas.Nat.{same_from_place}
 use Rattle.std.proofs.lemmas.List.Elements.{All-cons}
 use Rattle.std.proofs.Math.Arith.{mod-mul}
 use Rattle.std.proofs.Math.Nat.{mod-eq_of_lt}
-use Rattle.uuid.specs.Text.{hyphenated_text, lower, parsed_hyphenated}
-use Rattle.uuid.proofs.TextLemmas.{by_index_length}
+use Rattle.std.proofs.lemmas.Bool.Decides.{nat_tests}
+use Rattle.uuid.specs.Text.{hyphenated_text, lower, parsed_hyphenated, hex_digit, nibble, is_hyphen_place, digit_place}
+use Rattle.uuid.proofs.TextLemmas.{by_index_length, by_index_at, nibble_small}
 use Rattle.uuid.proofs.RoundTrips.{parses_hyphenated_text}
 use Rattle.table_rules.specs.Names.{id_number, id_text}
+use Rattle.table_rules.specs.Told.{IsGraphic}
 
 pub length-bytes : (k n : ℕ) → length (bytes_high_first k n) ≡ k
 length-bytes zero n = refl
@@ -77,3 +79,18 @@ same_parts start other a b x y la lb lx ly e =
     let same : h * 2 ^ 48 + (c + a) ≡ k * 2 ^ 48 + (c + b) = omega (arith, low.0) in
     let high = same_from_place h (c + a) k (c + b) (2 ^ 48) (omega arith) (omega arith) same in
     (high.0, omega (arith, high.1), low.1)
+
+-- an identifier has lower-case digits and hyphens
+hex_graphic : (d : ℕ) → d < 16 → IsGraphic (hex_digit lower d)
+hex_graphic d small = (grind (arith, nat_tests), grind (arith, nat_tests))
+
+place_graphic : (hyphen_here : Bool) (d : ℕ) → d < 16 → IsGraphic (if hyphen_here then 45 else hex_digit lower d)
+place_graphic true d small = (omega arith, omega arith)
+place_graphic false d small = hex_graphic d small
+
+pub id_graphic : (n : ℕ) → All IsGraphic (id_text n)
+id_graphic n = λ i d within.
+    let bs : List ℕ = bytes_high_first 16 n in
+    let short : i < 36 = omega (arith, length-id n) in
+    subst IsGraphic (sym (by_index_at 36 (λ k. if is_hyphen_place k then 45 else hex_digit lower (nibble bs (digit_place k))) i d short))
+    (place_graphic (is_hyphen_place i) (nibble bs (digit_place i)) (nibble_small bs (digit_place i)))

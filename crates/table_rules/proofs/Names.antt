@@ -1,18 +1,19 @@
 -- What tells the names of a table apart.
-use Rattle.std.proofs.Common.{◌≡◌, ◌≢◌, ℕ, Bool, true, false, if◌then◌else◌, ◌+◌, ◌*◌, ◌%◌, ◌^◌, ◌<◌, ◌≤◌, List, [], ◌∷◌, ◌++◌, length, take, drop, codes, get_or, Option, Some, None, refl, sym, ap, ◌∙◌, append_assoc, length-append, arith}
+use Rattle.std.proofs.Common.{◌≡◌, ◌≢◌, ℕ, Bool, true, false, if◌then◌else◌, ◌^◌, ◌<◌, List, [], ◌∷◌, ◌++◌, length, take, drop, codes, get_or, All, nat_lt, ◌&&◌, Option, Some, None, refl, sym, ap, ◌∙◌, append_assoc, length-append, arith}
 use Rattle.std.specs.Str.{bytes_eq}
-use Rattle.std.specs.Str.Parse.{digits_value}
-use Rattle.std.proofs.lemmas.Bool.{false_from_ne_true}
-use Rattle.std.proofs.lemmas.List.{take_at, drop_at, take-append-drop}
+use Rattle.std.specs.List.{list_all}
+use Rattle.std.specs.Str.Parse.{digits_value, AllDigits}
+use Rattle.std.proofs.lemmas.List.Elements.{All-cons, All-append}
+use Rattle.std.proofs.lemmas.Str.Parse.{digit_at}
+use Rattle.std.proofs.lemmas.Bool.{false_from_ne_true, and_parts, ltb-true}
+use Rattle.std.proofs.lemmas.List.{take_at, drop_at, take-append-drop, get_or_default}
 use Rattle.std.proofs.lemmas.Slice.Eq.{bytes_eq-Decides}
-use Rattle.edge_api.specs.declared.call.Tag.{Tag}
-use Rattle.table_rules.specs.declared.log.LogName.{LogName}
 use Rattle.table_rules.specs.declared.log.LogName.TheVariants.{Commit, CheckpointJson, CheckpointOther, Hint, OtherLog}
 use Rattle.table_rules.specs.Digits.{padded, five_or_more, number_in}
-use Rattle.table_rules.specs.Names.{log_prefix, commit_text, after, between, holds_of, is_id, is_id_or_part, of_version, with_version, in_log, behind_prefix, log_name, id_number, id_text, statement_text, data_text}
-use Rattle.table_rules.specs.Told.{CommitsDiffer, CommitIsRead, OnlyCommitIsRead, CommitIsInLog, DataIsOutside, DataIsNoCommit, IsTag, DataDiffer}
-use Rattle.table_rules.proofs.Numerals.{padded_same, length-padded, number-padded, number_is, some_then, value-five_or_more}
-use Rattle.table_rules.proofs.Ids.{same_id, same_parts, id_small, length-id}
+use Rattle.table_rules.specs.Names.{log_prefix, after, between, holds_of, is_id, is_id_or_part, of_version, with_version, in_log, behind_prefix, id_number, id_text, statement_text}
+use Rattle.table_rules.specs.Told.{CommitsDiffer, CommitIsRead, OnlyCommitIsRead, CommitIsInLog, DataIsOutside, DataIsNoCommit, DataDiffer, IsGraphic, DataIsGraphic}
+use Rattle.table_rules.proofs.Numerals.{padded_same, length-padded, number-padded, number_is, some_then, value-five_or_more, digits-five_or_more}
+use Rattle.table_rules.proofs.Ids.{same_id, same_parts, id_small, length-id, id_graphic}
 
 pub commits_differ : CommitsDiffer
 commits_differ v w lv lw e = padded_same 20 v w _ _ (omega arith) (omega arith) (ap (drop 11) e)
@@ -107,3 +108,30 @@ data_differ s t start other part piece is it lp lq e =
     let numbers : n ≡ m = same_id n m (id_small start s.actor s.statement is.0 is.1) (id_small other t.actor t.statement it.0 it.1) p.1 in
     let q = same_parts start other s.actor t.actor s.statement t.statement is.0 it.0 is.1 it.1 numbers in
     (q.1, q.2, sym (value-five_or_more part lp) ∙ ap (digits_value 10) p.0 ∙ value-five_or_more piece lq, q.0)
+
+-- the bytes of a data file's name
+digits_graphic : (ds : List ℕ) → AllDigits 10 ds → All IsGraphic ds
+digits_graphic ds digits = λ i d within.
+    let at = digit_at ds i digits within in
+    let same = get_or_default ds i d 0 within in (omega (arith, at, same), omega (arith, at, same))
+
+part_graphic : (part : ℕ) → part < 2 ^ 32 → All IsGraphic (five_or_more part)
+part_graphic part small = digits_graphic (five_or_more part) (digits-five_or_more part small)
+
+-- a test of every byte
+abbrev is_graphic : ℕ → Bool
+is_graphic b = nat_lt 32 b && nat_lt b 127
+
+tested : (bs : List ℕ) → list_all is_graphic bs ≡ true → All IsGraphic bs
+tested [] h = λ i d within. absurd (omega arith)
+tested (b ∷ bs) h =
+    let p = and_parts (is_graphic b) (list_all is_graphic bs) h in
+    let q = and_parts (nat_lt 32 b) (nat_lt b 127) p.0 in
+    All-cons IsGraphic b bs (ltb-true 32 b q.0, ltb-true b 127 q.1) (tested bs p.1)
+
+pub data_is_graphic : DataIsGraphic
+data_is_graphic tag start part small =
+    let one = All-append IsGraphic (codes "part-") (five_or_more part) (tested (codes "part-") refl) (part_graphic part small) in
+    let two = All-append IsGraphic (codes "part-" ++ five_or_more part) (codes "-") one (tested (codes "-") refl) in
+    let three = All-append IsGraphic (codes "part-" ++ five_or_more part ++ codes "-") (statement_text tag start) two (id_graphic (id_number start tag.actor tag.statement)) in
+    All-append IsGraphic (codes "part-" ++ five_or_more part ++ codes "-" ++ statement_text tag start) (codes "-c000.parquet") three (tested (codes "-c000.parquet") refl)

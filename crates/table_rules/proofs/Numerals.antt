@@ -1,12 +1,10 @@
 -- Numbers in a fixed number of digits.
-use Rattle.std.proofs.Common.{◌≡◌, ◌≢◌, ℕ, zero, suc, Bool, true, false, ◌&&◌, ◌==◌, ◌+◌, ◌*◌, ◌-◌, ◌/◌, ◌%◌, sub-one, add-one, set, take, Result, Ok, Err, IsUtf8, ◌^◌, ◌<◌, ◌≤◌, List, [], ◌∷◌, ◌++◌, length, drop, refl, sym, ap, ◌∙◌, append_assoc, length-append, nat_lt, inl, inr, if◌then◌else◌, arith, rules, Option, Some, None}
+use Rattle.std.proofs.Common.{◌≡◌, ℕ, zero, suc, Bool, true, false, ◌&&◌, ◌==◌, ◌+◌, ◌*◌, ◌-◌, ◌/◌, ◌%◌, sub-one, add-one, set, take, Result, Ok, Err, IsUtf8, ◌^◌, ◌<◌, ◌≤◌, List, [], ◌∷◌, ◌++◌, length, drop, refl, sym, ap, ◌∙◌, append_assoc, length-append, nat_lt, inl, inr, if◌then◌else◌, arith, rules, Option, Some, None}
 use Rattle.std.specs.Result.{result_ok, MatchResult, IsOk, OkIff}
 use Rattle.std.specs.List.{list_all}
 use Rattle.std.specs.Str.Parse.{AllDigits, digits_value, ParsesUnsigned}
 use Rattle.std.specs.Char.{digit_value, is_ascii_digit}
-use Rattle.std.specs.Fmt.{decimal}
 use Rattle.std.proofs.lemmas.Bool.{cases_lt, lt-ltb, le-ltb, ltb-true, and_parts, and_from, eqb-true, eq-eqb}
-use Rattle.std.proofs.lemmas.Bool.Decides.{nat_tests}
 use Rattle.std.proofs.lemmas.Int.Digits.{digits_push, digits_value_push, digits_value-lt}
 use Rattle.std.proofs.lemmas.Nat.{same_from_place}
 use Rattle.std.proofs.lemmas.Str.{digit_value_digit, IsUtf8-from_ascii}
@@ -56,6 +54,12 @@ pub value-five_or_more : (n : ℕ) → n < 2 ^ 32 → digits_value 10 (five_or_m
 value-five_or_more n small = elim (cases_lt n 100000) [
   | inl under ↦ rw (lt-ltb n 100000 under) (value-padded 5 n (omega arith))
   | inr over ↦ rw (le-ltb n 100000 over) (decimal_is_IsNumeral n (omega arith)).1
+]
+
+pub digits-five_or_more : (n : ℕ) → n < 2 ^ 32 → AllDigits 10 (five_or_more n)
+digits-five_or_more n small = elim (cases_lt n 100000) [
+  | inl under ↦ rw (lt-ltb n 100000 under) (digits-padded 5 n)
+  | inr over ↦ rw (le-ltb n 100000 over) (decimal_is_IsNumeral n (omega arith)).0.1
 ]
 
 -- the test for digits

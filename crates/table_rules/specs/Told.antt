@@ -1,5 +1,5 @@
 -- What tells the names of a table apart.
-use Rattle.std.specs.Prelude.{◌≡◌, ◌≢◌, ◌<◌, ◌%◌, ◌^◌, ◌++◌, ℕ, List, true, nat_eq}
+use Rattle.std.specs.Prelude.{◌≡◌, ◌≢◌, ◌<◌, ◌%◌, ◌^◌, ◌++◌, ℕ, List, All, true, nat_eq}
 use Rattle.std.specs.List.{starts_with}
 use Rattle.edge_api.specs.declared.call.Tag.{Tag}
 use Rattle.table_rules.specs.Names.{log_prefix, commit_text, log_name, data_text}
@@ -36,3 +36,10 @@ IsTag tag = (tag.actor < 2 ^ 16) × (tag.statement < 2 ^ 32)
 abbrev pub DataDiffer : Type 0
 DataDiffer = (s t : Tag) (start other part piece : ℕ) → IsTag s → IsTag t → part < 2 ^ 32 → piece < 2 ^ 32 → data_text s start part ≡ data_text t other piece
     → (s.actor ≡ t.actor) × (s.statement ≡ t.statement) × (part ≡ piece) × (start % 2 ^ 48 ≡ other % 2 ^ 48)
+
+-- it has no blank, no control character and nothing outside of ASCII
+abbrev pub IsGraphic : ℕ → Type 0
+IsGraphic b = (32 < b) × (b < 127)
+
+abbrev pub DataIsGraphic : Type 0
+DataIsGraphic = (tag : Tag) (start part : ℕ) → part < 2 ^ 32 → All IsGraphic (data_text tag start part)

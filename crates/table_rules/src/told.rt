@@ -1,8 +1,8 @@
 //! Laws over the names of a table.
-ghost use Rattle.table_rules.specs.Told.{CommitsDiffer, CommitIsRead, OnlyCommitIsRead, CommitIsInLog, DataIsOutside, DataIsNoCommit, DataDiffer};
+ghost use Rattle.table_rules.specs.Told.{CommitsDiffer, CommitIsRead, OnlyCommitIsRead, CommitIsInLog, DataIsOutside, DataIsNoCommit, DataDiffer, DataIsGraphic};
 
 /// A name tells which commit it is of, a data file's name is none of the log's, and it tells the
-/// statement, the part and the start of its data file.
+/// statement, the part and the start of its data file. It has graphic characters of ASCII alone.
 pub fn names_are_told_apart()
     ensures commits_differ { CommitsDiffer }
     ensures commit_is_read { CommitIsRead }
@@ -11,4 +11,5 @@ pub fn names_are_told_apart()
     ensures data_is_outside { DataIsOutside }
     ensures data_is_no_commit { DataIsNoCommit }
     ensures data_differ { DataDiffer }
+    ensures data_is_graphic { DataIsGraphic }
 {}

@@ -1,4 +1,4 @@
-use Rattle.std.proofs.Common.{◌≡◌, ◌∙◌, sym}
+use Rattle.std.proofs.Common.{◌∙◌, sym}
 use Rattle.line_texts.specs.Pieces.{pieces}
 use Rattle.line_texts.specs.Texts.{row_of_line, rows_of_text, bad_line_of_rows}
 use Rattle.line_texts.proofs.Cuts.{lines_more, lines_bad, bad_more, bad_here, lines_end, lines_open, bad_end}

@@ -1,4 +1,3 @@
-use Rattle.std.proofs.Common.{sym}
 use Rattle.table_rules.proofs.Numerals.{parsed, is_utf8}
 use Rattle.table_rules.proofs.digits.number_of.Goals as goal
 
