@@ -1,11 +1,10 @@
 -- A whole line: reading is the inverse of spelling, and a refusal says that nothing is spelled so.
-use Rattle.std.proofs.Common.{◌≡◌, ℕ, zero, suc, ◌==◌, Bool, true, false, cond, List, [], ◌∷◌, ◌++◌, length, Option, Some, None, Result, Ok, Err, refl, sym, ap, subst, ◌∙◌, arith, rules}
+use Rattle.std.proofs.Common.{◌≡◌, ◌==◌, Bool, true, false, cond, [], length, Some, None, Result, Ok, Err, refl, ap, subst, ◌∙◌}
 use Rattle.std.specs.Prelude.{MatchResult, IfOk}
-use Rattle.std.proofs.lemmas.List.{append-nil, nil_from_length}
+use Rattle.std.proofs.lemmas.List.{nil_from_length}
 use Rattle.std.proofs.lemmas.Bool.{eqb-true}
-use Rattle.script_tokens.specs.declared.token.Token.{Token}
-use Rattle.script_grammar.specs.Shape.{Shape, Value, read, spell, Fits, Spells, whole, ended}
-use Rattle.script_tokens.specs.Gives.{◌>>=◌, Gives, Fails}
+use Rattle.script_grammar.specs.Shape.{Shape, Value, read, Spells, whole, ended}
+use Rattle.script_tokens.specs.Gives.{Gives}
 use Rattle.script_tokens.specs.declared.fault.ParseError.{ParseError}
 use Rattle.script_tokens.specs.declared.fault.ParseError.TheVariants as errors
 use Rattle.script_grammar.proofs.Laws.{Tokens, bind_some, law}

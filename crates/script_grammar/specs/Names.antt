@@ -1,5 +1,5 @@
 -- Names.
-use Rattle.std.specs.Prelude.{ℕ, Bool, true, false, List, [], ◌∷◌, ◌==◌, ◌&&◌, not, nat_le, length}
+use Rattle.std.specs.Prelude.{ℕ, Bool, List, ◌==◌, ◌&&◌, not, nat_le, length}
 use Rattle.std.specs.List.{prefix_len}
 use Rattle.script_tokens.specs.Words.{is_word_byte, is_reserved}
 use Rattle.script_tokens.specs.Tokens.{begins_letter}
