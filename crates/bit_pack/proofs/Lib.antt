@@ -1,2 +1,4 @@
 pub mod Wholes
 pub mod Sums
+pub mod PieceLemmas
+pub mod WriteLemmas

@@ -2,7 +2,7 @@
 use Rattle.std.proofs.Common.{◌≡◌, ◌⊎◌, ℕ, zero, suc, ◌+◌, ◌-◌, ◌*◌, ◌/◌, ◌%◌, ◌^◌, ◌<◌, ◌≤◌, List, [], ◌∷◌, ◌++◌, length, take, drop, get_or, refl, sym, ap, ◌∙◌, arith, add-one, append_assoc, inl, inr, subst, ◌≢◌, take-add, zero-mul, replicate, ltb, mul_comm}
 use Rattle.std.proofs.Math.Nat.{pow-suc, mul-zero, add-mul-div_left, add-mul-mod_self_left, div-eq_of_lt, mod-eq_of_lt, pow-le-pow_right}
 use Rattle.std.proofs.Math.Pow.{mod-mod-pow}
-use Rattle.std.specs.Int.{w128, to_le_bytes, bytes_low_first, byte_at}
+use Rattle.std.specs.Int.{w32, w128, to_le_bytes, bytes_low_first, byte_at}
 use Rattle.std.specs.Prelude.{bit_or, EachIndex, SomeIndex, MatchBool, slice_index}
 use Rattle.std.proofs.lemmas.Bool.{cases_lt, le-ltb, lt-ltb}
 use borrow.Author.Count.{below_more}
@@ -320,7 +320,7 @@ pub few_padded : (w : ℕ) (values : List ℕ) → length values < 8
     → packed_number w (values ++ drop (length values) (replicate 8 0)) ≡ packed_number w values
 few_padded w values few = rw drop-replicate (packed_number-padded w (8 - length values) values)
 
-zeros_at : (n k : ℕ) → get_or (replicate {A = ℕ} n 0) k 0 ≡ 0
+pub zeros_at : (n k : ℕ) → get_or (replicate {A = ℕ} n 0) k 0 ≡ 0
 zeros_at zero k = refl
 zeros_at (suc n) zero = refl
 zeros_at (suc n) (suc k) = zeros_at n k
@@ -343,3 +343,25 @@ truncated c n m at start appended e le whole =
   where
     take-append-add : (c : ℕ) (xs ys : List ℕ) → take (length xs + c) (xs ++ ys) ≡ xs ++ take c ys
     take-append-add c xs ys = take-add (length xs) c (xs ++ ys) ∙ rw (take_at xs ys (length xs) refl, drop_at xs ys (length xs) refl) refl
+
+pub front_of_word32 : (a n : ℕ) → a ≤ 4 → take a (to_le_bytes w32 n) ≡ bytes_of a n
+front_of_word32 a n le = ap (λ (bs : List ℕ). take a bs) (low_first_is 0 4 n ∙ ap (λ m. bytes_of 4 m) (omega arith)) ∙ take-bytes_of a 4 n le
+
+bytes_of-zero : (d : ℕ) → bytes_of d 0 ≡ replicate d 0
+unfolding bytes_of
+bytes_of-zero zero = refl
+bytes_of-zero (suc d) = ap (λ (bs : List ℕ). 0 ∷ bs) (bytes_of-zero d)
+
+-- zeros behind the bytes of a number that they hold
+pub bytes_of-zeros : (c d n : ℕ) → n < 2 ^ (8 * c) → bytes_of c n ++ replicate d 0 ≡ bytes_of (c + d) n
+bytes_of-zeros c d n lt =
+    sym (bytes_of-append c d n ∙ ap (λ m. bytes_of c n ++ bytes_of d m) (div-eq_of_lt lt) ∙ ap (λ (bs : List ℕ). bytes_of c n ++ bs) (bytes_of-zero d))
+
+pub two_pow_le : (i j : ℕ) → i ≤ j → 2 ^ i ≤ 2 ^ j
+two_pow_le i j le = pow-le-pow_right (omega arith) le
+
+pub packed_below : (w : ℕ) (values : List ℕ) → AllFit w values → packed_number w values < 2 ^ (8 * ((length values * w + 7) / 8))
+packed_below w values fits =
+    let below : packed_number w values < 2 ^ (w * length values) = packed_number-lt w values fits in
+    let le : w * length values ≤ 8 * ((length values * w + 7) / 8) = omega arith in
+    omega (arith, below, two_pow_le (w * length values) (8 * ((length values * w + 7) / 8)) le)

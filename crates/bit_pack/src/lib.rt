@@ -3,10 +3,12 @@
 #![tactic(auto)]
 
 mod fault;
+mod hybrid;
 mod packing;
 mod unpacking;
 mod width;
 
 pub use fault::PackFault;
+pub use hybrid::{read_hybrid, write_hybrid};
 pub use packing::{pack, pack8};
 pub use unpacking::{MOST_VALUES, plain_value, unpack, unpack8};

@@ -47,7 +47,7 @@ fn word_at(bytes: &[u8], at: usize) -> u64
 
 /// All bits of at most seven bytes.
 #[inline(always)]
-fn short_word(bytes: &[u8]) -> u64
+pub(crate) fn short_word(bytes: &[u8]) -> u64
     requires { length bytes.now < 8 }
     ensures { result ≡ number_in bytes.now }
 {
