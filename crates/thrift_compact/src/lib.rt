@@ -1,0 +1,11 @@
+//! The Thrift compact protocol: a cursor that reads and skips values, and an appender that writes them.
+#![tactic(auto)]
+
+mod cursor;
+mod fault;
+mod parts;
+mod wire;
+
+pub use cursor::Cursor;
+pub use fault::{NoMemory, ThriftFault};
+pub use wire::{Field, ListHead, Wire};
