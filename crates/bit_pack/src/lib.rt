@@ -4,11 +4,16 @@
 
 mod fault;
 mod hybrid;
+mod laws;
 mod packing;
 mod unpacking;
 mod width;
 
 pub use fault::PackFault;
 pub use hybrid::{read_hybrid, write_hybrid};
+pub use laws::one_reading;
 pub use packing::{pack, pack8};
 pub use unpacking::{MOST_VALUES, plain_value, unpack, unpack8};
+
+#[cfg(test)]
+mod tests;
