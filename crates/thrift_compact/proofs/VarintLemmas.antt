@@ -3,7 +3,8 @@ use Rattle.std.proofs.Common.{◌≡◌, ◌⊎◌, ℕ, zero, suc, ◌+◌, ◌
 use Rattle.std.specs.Prelude.{bit_or}
 use Rattle.std.proofs.lemmas.Bool.{cases_lt, lt-ltb, le-ltb}
 use Rattle.std.proofs.lemmas.Nat.{pow_pos, pow-add, shl_whole, or_shifted, or_comm, mul-le}
-use Rattle.std.proofs.lemmas.List.{drop_more, drop_all}
+use Rattle.std.proofs.lemmas.List.{drop_more, drop_all, append_assoc, length-take, take-take}
+use Rattle.thrift_compact.specs.Writing.{varint_of}
 use Rattle.thrift_compact.specs.Varints.{Varint, number, ends, long, continued, varint}
 
 -- a varint behind so many bytes, which were the low bits of the number
@@ -98,3 +99,30 @@ digit_above low byte count below few =
   where
     seven : (i : ℕ) → 7 * (i + 1) ≡ 7 + 7 * i
     seven i = omega arith
+
+-- one byte of a varint more was written
+pub varint_next : (most rest : ℕ) (out new total : List ℕ) → 128 ≤ rest → rest < 2 ^ (7 * most) → new ≡ out ++ (rest % 128 + 128) ∷ []
+    → out ++ varint_of most rest ≡ total → (m : ℕ) × (0 < m) × (rest / 128 < 2 ^ (7 * m)) × (new ++ varint_of m (rest / 128) ≡ total)
+unfolding varint_of
+varint_next zero rest out new total large below e whole = absurd (omega arith)
+varint_next (suc zero) rest out new total large below e whole = absurd (omega arith)
+varint_next (suc (suc m)) rest out new total large below e whole =
+    let more_bits : 2 ^ (7 * suc (suc m)) ≡ 128 * 2 ^ (7 * suc m) = ap (λ k. 2 ^ k) (seven (suc m)) ∙ pow-add 2 7 (7 * suc m) in
+    (suc m, omega arith, omega (arith, more_bits),
+     ap (λ (xs : List ℕ). xs ++ varint_of (suc m) (rest / 128)) e
+     ∙ append_assoc out ((rest % 128 + 128) ∷ []) (varint_of (suc m) (rest / 128))
+     ∙ (rw (le-ltb rest 128 large) at whole))
+  where
+    seven : (i : ℕ) → 7 * suc i ≡ 7 + 7 * i
+    seven i = omega arith
+
+pub varint_end : (most rest : ℕ) (out new total : List ℕ) → 0 < most → rest < 128 → new ≡ out ++ rest ∷ [] → out ++ varint_of most rest ≡ total → new ≡ total
+unfolding varint_of
+varint_end zero rest out new total some small e whole = absurd (omega arith)
+varint_end (suc most) rest out new total some small e whole = e ∙ (rw (lt-ltb rest 128 small) at whole)
+
+-- what was kept is still kept behind one step more
+pub kept_on : (old middle new : List ℕ) → take (length old) middle ≡ old → take (length middle) new ≡ middle → take (length old) new ≡ old
+kept_on old middle new first second =
+    let short : length old ≤ length middle = omega (arith, ap length first, length-take (length old) middle) in
+    sym (take-take (length old) (length middle) new short) ∙ ap (λ (xs : List ℕ). take (length old) xs) second ∙ first

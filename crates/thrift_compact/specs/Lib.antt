@@ -1,3 +1,4 @@
 pub mod Varints
 pub mod Places
 pub mod Values
+pub mod Writing
