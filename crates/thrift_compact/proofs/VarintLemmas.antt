@@ -107,11 +107,14 @@ unfolding varint_of
 varint_next zero rest out new total large below e whole = absurd (omega arith)
 varint_next (suc zero) rest out new total large below e whole = absurd (omega arith)
 varint_next (suc (suc m)) rest out new total large below e whole =
-    let more_bits : 2 ^ (7 * suc (suc m)) ≡ 128 * 2 ^ (7 * suc m) = ap (λ k. 2 ^ k) (seven (suc m)) ∙ pow-add 2 7 (7 * suc m) in
-    (suc m, omega arith, omega (arith, more_bits),
-     ap (λ (xs : List ℕ). xs ++ varint_of (suc m) (rest / 128)) e
-     ∙ append_assoc out ((rest % 128 + 128) ∷ []) (varint_of (suc m) (rest / 128))
-     ∙ (rw (le-ltb rest 128 large) at whole))
+    let more_bits : 2 ^ (7 * suc (suc m)) ≡ 128 * 2 ^ (7 * suc m) = ap (λ k. 2 ^ k) (seven (suc m)) ∙ pow-add 2 7 (7 * suc m) in (
+      suc m,
+      omega arith,
+      omega (arith, more_bits),
+      ap (λ (xs : List ℕ). xs ++ varint_of (suc m) (rest / 128)) e
+          ∙ append_assoc out ((rest % 128 + 128) ∷ []) (varint_of (suc m) (rest / 128))
+          ∙ (rw (le-ltb rest 128 large) at whole),
+    )
   where
     seven : (i : ℕ) → 7 * suc i ≡ 7 + 7 * i
     seven i = omega arith

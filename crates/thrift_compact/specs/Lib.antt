@@ -2,3 +2,4 @@ pub mod Varints
 pub mod Places
 pub mod Values
 pub mod Writing
+pub mod Skipped

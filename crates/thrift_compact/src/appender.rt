@@ -4,11 +4,10 @@ ghost use Rattle.std.specs.Prelude.{◌≡◌, List, ℕ, [], ◌∷◌, ◌++�
 ghost use Rattle.thrift_compact.specs.Varints.{zigzag};
 ghost use Rattle.thrift_compact.specs.Writing.{code_of, varint_of, varint_bytes, number_bytes, binary_bytes, list_bytes, delta_bytes, field_bytes};
 
-use std::alloc::{AllocError, Global};
-use std::marker::Model;
-
 use crate::fault::NoMemory;
 use crate::wire::Wire;
+use std::alloc::{AllocError, Global};
+use std::marker::Model;
 
 /// Bytes to which Thrift values are appended. A refusal changes nothing.
 #[derive(Drop)]

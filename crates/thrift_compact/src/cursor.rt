@@ -2,11 +2,13 @@
 
 ghost use Rattle.std.specs.Prelude.{◌≡◌, List, ℕ};
 ghost use Rattle.thrift_compact.specs.Places.{Moves};
+ghost use Rattle.thrift_compact.specs.Skipped.{skipped_at};
 ghost use Rattle.thrift_compact.specs.Values.{number_at, field_at, list_at, binary_at};
 
 use crate::fault::ThriftFault;
 use crate::parts::{read_binary, read_field, read_list, read_number};
-use crate::wire::{Field, ListHead};
+use crate::skip::find_end;
+use crate::wire::{Field, ListHead, Wire};
 use std::marker::Model;
 
 /// A place in bytes that hold Thrift values. Each call reads what stands there and moves behind it; after a fault the
@@ -79,4 +81,17 @@ impl<'a> Cursor<'a> {
         self.at = at;
         Ok(head)
     }
+
+    /// Passes over a value. A boolean is in its field's header and takes no byte. More than sixteen containers inside
+    /// one another, counted from this value, are refused.
+    pub fn skip(&mut self, wire: Wire) -> Result<(), ThriftFault>
+        ensures { Moves (λ nothing. nothing) self.old self.new result (skipped_at self.old.bytes wire self.old.at) }
+    {
+        let at = find_end(self.bytes, self.at, wire, false, MOST_LEVELS)?;
+        self.at = at;
+        Ok(())
+    }
 }
+
+/// How many containers may be open at once in a value that is skipped.
+const MOST_LEVELS: usize = 16;

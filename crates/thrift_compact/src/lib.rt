@@ -5,9 +5,13 @@ mod appender;
 mod cursor;
 mod fault;
 mod parts;
+mod skip;
 mod wire;
 
 pub use appender::Appender;
 pub use cursor::Cursor;
 pub use fault::{NoMemory, ThriftFault};
 pub use wire::{Field, ListHead, Wire};
+
+#[cfg(test)]
+mod tests;

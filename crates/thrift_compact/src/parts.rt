@@ -12,7 +12,7 @@ use crate::wire::{Field, ListHead, Wire};
 pub(crate) fn read_varint(bytes: &[u8], at: usize) -> Result<(u64, usize), ThriftFault>
     requires { at ≤ length bytes.now }
     ensures value { result ≡ varint_at bytes.now at }
-    ensures within { IfOk result (λ read. read.1 ≤ length bytes.now) }
+    ensures within { IfOk result (λ read. (at < read.1) × (read.1 ≤ length bytes.now)) }
 {
     let mut number: u128 = 0;
     for i in 0..10 {
@@ -45,7 +45,7 @@ fn short_number(number: u128, at: usize, end: usize) -> Result<(u64, usize), Thr
 pub(crate) fn read_number(bytes: &[u8], at: usize) -> Result<(i64, usize), ThriftFault>
     requires { at ≤ length bytes.now }
     ensures value { result ≡ number_at bytes.now at }
-    ensures within { IfOk result (λ read. read.1 ≤ length bytes.now) }
+    ensures within { IfOk result (λ read. (at < read.1) × (read.1 ≤ length bytes.now)) }
 {
     let (number, end) = read_varint(bytes, at)?;
     Ok((signed(number), end))
@@ -64,7 +64,7 @@ fn signed(number: u64) -> i64
 pub(crate) fn read_size(bytes: &[u8], at: usize) -> Result<(u32, usize), ThriftFault>
     requires { at ≤ length bytes.now }
     ensures value { result ≡ size_at bytes.now at }
-    ensures within { IfOk result (λ read. read.1 ≤ length bytes.now) }
+    ensures within { IfOk result (λ read. (at < read.1) × (read.1 ≤ length bytes.now)) }
 {
     let (size, end) = read_varint(bytes, at)?;
     if size >= 1 << 32 {
@@ -78,7 +78,7 @@ pub(crate) fn pass(bytes: &[u8], at: usize, count: usize) -> Result<usize, Thrif
     requires at { at ≤ length bytes.now }
     requires count { count < 2 ^ 33 }
     ensures value { result ≡ behind bytes.now at count }
-    ensures within { IfOk result (λ end. end ≤ length bytes.now) }
+    ensures within { IfOk result (λ end. (at + count ≡ end) × (end ≤ length bytes.now)) }
 {
     if count > bytes.len() - at {
         return Err(ThriftFault::Short { at: bytes.len() });
@@ -91,7 +91,7 @@ pub(crate) fn pass(bytes: &[u8], at: usize, count: usize) -> Result<usize, Thrif
 pub(crate) fn read_byte(bytes: &[u8], at: usize) -> Result<(u8, usize), ThriftFault>
     requires { at ≤ length bytes.now }
     ensures value { result ≡ byte_at bytes.now at }
-    ensures within { IfOk result (λ read. read.1 ≤ length bytes.now) }
+    ensures within { IfOk result (λ read. (at < read.1) × (read.1 ≤ length bytes.now)) }
 {
     let end = pass(bytes, at, 1)?;
     Ok((bytes[at], end))
@@ -102,7 +102,7 @@ pub(crate) fn read_byte(bytes: &[u8], at: usize) -> Result<(u8, usize), ThriftFa
 pub(crate) fn read_binary(bytes: &[u8], at: usize) -> Result<(&[u8], usize), ThriftFault>
     requires { at ≤ length bytes.now }
     ensures value { Gives (λ read. (read.0.now, read.1)) result (binary_at bytes.now at) }
-    ensures within { IfOk result (λ read. read.1 ≤ length bytes.now) }
+    ensures within { IfOk result (λ read. (at < read.1) × (read.1 ≤ length bytes.now)) }
 {
     let (size, from) = read_size(bytes, at)?;
     let end = pass(bytes, from, size as usize)?;
@@ -152,7 +152,7 @@ fn field_of(at: usize, id: i64, wire: Wire, end: usize) -> Result<(Field, usize)
 pub(crate) fn read_field(bytes: &[u8], last: i16, at: usize) -> Result<(Field, usize), ThriftFault>
     requires { at ≤ length bytes.now }
     ensures value { result ≡ field_at bytes.now last at }
-    ensures within { IfOk result (λ read. read.1 ≤ length bytes.now) }
+    ensures within { IfOk result (λ read. (at < read.1) × (read.1 ≤ length bytes.now)) }
 {
     let (head, end) = read_byte(bytes, at)?;
     if head == 0 {
@@ -171,7 +171,7 @@ pub(crate) fn read_field(bytes: &[u8], last: i16, at: usize) -> Result<(Field, u
 pub(crate) fn read_list(bytes: &[u8], at: usize) -> Result<(ListHead, usize), ThriftFault>
     requires { at ≤ length bytes.now }
     ensures value { result ≡ list_at bytes.now at }
-    ensures within { IfOk result (λ read. read.1 ≤ length bytes.now) }
+    ensures within { IfOk result (λ read. (at < read.1) × (read.1 ≤ length bytes.now)) }
 {
     let (head, end) = read_byte(bytes, at)?;
     let wire = wire_at(head % 16, at)?;
