@@ -1,0 +1,5 @@
+pub mod Wholes
+pub mod Sums
+pub mod PieceLemmas
+pub mod WriteLemmas
+pub mod OneReading

@@ -1,0 +1,6 @@
+use Rattle.std.proofs.Common.{◌≡◌, ◌*◌, ◌++◌}
+use Rattle.bit_pack.specs.Numbers.{number_in, fields}
+use Rattle.bit_pack.proofs.unpacking.append_groups.Given as goal
+
+abbrev pub invariant-loop-group : goal.invariant-loop-group
+invariant-loop-group g l = l.out.items ≡ l.fn.out.items ++ fields g.row.W (number_in l.bytes) 0 (8 * l.group)

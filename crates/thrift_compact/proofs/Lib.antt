@@ -1,0 +1,2 @@
+pub mod VarintLemmas
+pub mod SkipLemmas

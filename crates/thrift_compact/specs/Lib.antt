@@ -1,0 +1,5 @@
+pub mod Varints
+pub mod Places
+pub mod Values
+pub mod Writing
+pub mod Skipped

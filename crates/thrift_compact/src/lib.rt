@@ -1,0 +1,17 @@
+//! The Thrift compact protocol: a cursor that reads and skips values, and an appender that writes them.
+#![tactic(auto)]
+
+mod appender;
+mod cursor;
+mod fault;
+mod parts;
+mod skip;
+mod wire;
+
+pub use appender::Appender;
+pub use cursor::Cursor;
+pub use fault::{NoMemory, ThriftFault};
+pub use wire::{Field, ListHead, Wire};
+
+#[cfg(test)]
+mod tests;

@@ -1,0 +1,90 @@
+//! The kernels that are timed.
+
+ghost use Rattle.std.specs.Prelude.{◌≡◌, ◌≤◌, ◌^◌, ◌<◌, ◌*◌, length, IfOk};
+
+use bit_pack::{PackFault, pack, unpack};
+use std::alloc::{AllocError, Global};
+
+/// How many values a kernel runs over.
+const COUNT: usize = 1 << 22;
+
+/// What can go wrong at the word `time`.
+#[derive(Debug, Drop)]
+pub enum KernelFault {
+    /// No kernel of this name.
+    Kernel,
+    /// No number of runs.
+    Runs,
+    /// What the kernel answered.
+    Pack(PackFault),
+}
+
+/// The checksum of so many runs of a kernel.
+pub fn run(alloc: Global, kernel: &str, runs: &str) -> Result<u64, KernelFault> {
+    let Ok(runs) = runs.parse::<u32>() else {
+        return Err(KernelFault::Runs);
+    };
+    if let Some(width) = kernel.strip_prefix("unpack-") {
+        return match width.parse::<u8>() {
+            Ok(width) => run_unpack(alloc, width, runs).map_err(KernelFault::Pack),
+            Err(_) => Err(KernelFault::Kernel),
+        };
+    }
+    if let Some(width) = kernel.strip_prefix("pack-") {
+        return match width.parse::<u8>() {
+            Ok(width) => run_pack(alloc, width, runs).map_err(KernelFault::Pack),
+            Err(_) => Err(KernelFault::Kernel),
+        };
+    }
+    Err(KernelFault::Kernel)
+}
+
+/// Values of a width, from a shift register.
+fn make_values(alloc: Global, width: u8, count: usize) -> Result<Vec<u32>, AllocError> {
+    let mut values = Vec::with_capacity(alloc, count)?;
+    let mut state: u64 = 0x9e37_79b9_7f4a_7c15;
+    for _ in 0..count {
+        state ^= state << 13;
+        state ^= state >> 7;
+        state ^= state << 17;
+        values.push(cut(state, width))?;
+    }
+    Ok(values)
+}
+
+/// The low bits of a number, at most 32.
+fn cut(state: u64, width: u8) -> u32 {
+    let low = state % (1 << 32);
+    if width < 32 {
+        (low % (1 << width)) as u32
+    } else {
+        low as u32
+    }
+}
+
+/// Unpacks the same bytes so many times; the checksum takes one value of each run.
+fn run_unpack(alloc: Global, width: u8, runs: u32) -> Result<u64, PackFault> {
+    let values = make_values(alloc, width, COUNT)?;
+    let bytes = pack(alloc, width, values.as_slice())?;
+    let mut sum: u64 = 0;
+    for turn in 0..runs {
+        let found = unpack(alloc, width, bytes.as_slice(), COUNT)?;
+        if let Some(value) = found.as_slice().get(turn as usize % COUNT) {
+            sum = sum.wrapping_mul(31).wrapping_add(u64::from(*value));
+        }
+    }
+    Ok(sum)
+}
+
+/// Packs the same values so many times; the checksum takes one byte of each run.
+fn run_pack(alloc: Global, width: u8, runs: u32) -> Result<u64, PackFault> {
+    let values = make_values(alloc, width, COUNT)?;
+    let mut sum: u64 = 0;
+    for turn in 0..runs {
+        let bytes = pack(alloc, width, values.as_slice())?;
+        if let Some(byte) = bytes.as_slice().get(turn as usize % COUNT) {
+            sum = sum.wrapping_mul(31).wrapping_add(u64::from(*byte));
+        }
+    }
+    Ok(sum)
+}
