@@ -6,7 +6,8 @@ use Rattle.std.specs.declared.cmp.Ordering.{Ordering}
 use Rattle.std.specs.declared.cmp.Ordering.TheVariants.{Less, Equal, Greater}
 use Rattle.std.proofs.lemmas.Cmp.{tied_itself}
 use Rattle.row_base.specs.RowOrder.{row_cmp}
-use Rattle.row_base.proofs.RowOrder.{row_cmp_total, row_apart}
+use Rattle.row_base.specs.RowOrderLaws.{row_cmp_total}
+use Rattle.row_base.proofs.RowOrder.{row_apart}
 use Rattle.table_laws.specs.Bags.{Row, same_row, count_of, without_one, without, only, others}
 
 -- the test of rows tells them apart

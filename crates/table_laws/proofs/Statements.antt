@@ -25,9 +25,9 @@ use Rattle.call_phases.specs.Phases.{Entries}
 use Rattle.committer.specs.declared.judge.Verdict.TheVariants as verdict
 use Rattle.txn_machine.specs.declared.judge.CommitJudge.{CommitJudge}
 use Rattle.txn_machine.specs.Judging.{verdict_of}
-use Rattle.txn_machine.specs.Phases.{IsCutShort, Ends, newest, missing, AtLoad, AtFiles}
+use Rattle.txn_machine.specs.Phases.{IsCutShort, Ends, Cut, newest, missing, AtLoad, AtFiles}
 use Rattle.txn_machine.specs.Texts.{read_commit, read_file}
-use Rattle.txn_machine.specs.Answered.{Kept, retention, version_limit, IsSelected, IsReplied, load_from, load_base, names_of, AtCommit, committed, Appends, Selects, AfterLoad, Loads, Makes, AfterListing, Answered}
+use Rattle.txn_machine.specs.Answered.{Kept, retention, version_limit, IsSelected, IsReplied, load_from, load_count, load_base, names_of, AtCommit, committed, Appends, Selects, AfterLoad, Loads, Makes, AfterListing, Answered}
 use Rattle.table_laws.specs.Bags.{Row}
 use Rattle.table_laws.specs.Operations.{Operation, operation_of}
 use Rattle.table_laws.specs.Operations as operations
@@ -74,9 +74,9 @@ module _ (level : Level) (K : List ℕ → List ℕ → Type 0) (tag : Tag) (op 
     abbrev P : ℕ → Entries → Type 0
     P lost past = Attempts level K tag op start read s view lost past
 
-    pub attempts : (limit : ℕ) (reply : Option Reply) (left : ℕ) (past es : Entries) → read + 1 + (0 + left) < 2 ^ 64 → P 0 past → AtCommit tag limit reply left start (read + 1) j (committed tag limit read) es → AllLawful level K tag statement reply past es
+    pub attempts : (limit : ℕ) (reply : Option Reply) (left : ℕ) (past es : Entries) → read + 1 + (0 + left) < 2 ^ 64 → P 0 past → AtCommit reply left start (read + 1) j (committed read) es → AllLawful level K tag statement reply past es
     attempts limit reply left past es small p h =
-        at_attempt level K tag statement j (record { start = start; retention = retention; first = read + 1 }) (committed tag limit read) P
+        at_attempt level K tag statement j (record { start = start; retention = retention; first = read + 1 }) (committed read) P
         (λ lost past e is p. record {
           before = p.before;
           next = p.next;
@@ -173,13 +173,13 @@ module _ (facts : TextFacts) (level : Level) (K : List ℕ → List ℕ → Type
   loaded_then Select faithful start read reply s past es small loaded fresh h = selects read reply s past es loaded h
 
   -- the load begins with what is kept, or with no table
-  base_known : (kept : Option Kept) (v : ℕ) → KeptPart K kept → (LoadedTo K (load_from kept v) (load_base kept v)) × (load_from kept v ≤ v + 1)
+  base_known : (kept : Option Kept) (v : ℕ) → KeptPart K kept → (LoadedTo K (load_from kept v) (load_base kept v)) × (load_count kept v + load_from kept v ≡ suc v)
   base_known None v held = (refl, omega arith)
   base_known (Some k) v held = by (nat_lt (v + 1) k.versions) refl
     where
-      by : (b : Bool) → nat_lt (v + 1) k.versions ≡ b → (LoadedTo K (if b then 0 else k.versions) (if b then no_table else k.state)) × ((if b then 0 else k.versions) ≤ v + 1)
+      by : (b : Bool) → nat_lt (v + 1) k.versions ≡ b → (LoadedTo K (if b then 0 else k.versions) (if b then no_table else k.state)) × ((if b then suc v else v + 1 - k.versions) + (if b then 0 else k.versions) ≡ suc v)
       by true e = (refl, omega arith)
-      by false e = (held, grind (arith, nat_tests))
+      by false e = (held, let le : k.versions ≤ v + 1 = grind (arith, nat_tests) in omega arith)
 
   loads : (kept : Option Kept) → KeptPart K kept → (statement : Statement) → ((rows : List Row) → statement ≡ Insert rows → rows_of_text (text_of_rows rows) ≡ Some rows)
       → (start : ℕ) (l : List Listed) (reply : Option Reply) (o : Option ℕ) (past es : Entries) → NoPut past → first_past told_by past ≡ Some start → ((v : ℕ) → o ≡ Some v → first_past listed_by past ≡ Some v)
@@ -187,23 +187,29 @@ module _ (facts : TextFacts) (level : Level) (K : List ℕ → List ℕ → Type
   loads kept held statement faithful start l reply None past es none started seen h = ended level K tag statement refusal.NoTable reply past es h
   loads kept held statement faithful start l reply (Some v) past es none started seen h = by (nat_lt v version_limit) refl h
     where
-      from : v < version_limit → (o : Option ℕ) → MatchOption o (AtLoad reply (v + 1 - load_from kept v) (load_from kept v) (load_base kept v) (AfterLoad tag limit statement start v reply) es) (λ k. Ends reply (refusal.LogGone (commit_text k)) es)
+      from : v < version_limit → (o : Option ℕ) → MatchOption o (AtLoad reply (load_count kept v) (load_from kept v) (load_base kept v) (AfterLoad tag limit statement start v reply) es) (λ k. Ends reply (refusal.LogGone (commit_text k)) es)
           → AllLawful level K tag statement reply past es
       from small (Some k) on = ended level K tag statement _ reply past es on
       from small None on =
           let base = base_known kept v held in
-          at_load level K tag statement start v reply (v + 1 - load_from kept v) (load_from kept v) (load_base kept v) _ past es
+          at_load level K tag statement start v reply (load_count kept v) (load_from kept v) (load_base kept v) _ past es
           (loaded_more K (Known K past) (λ n b k. inl k) (load_from kept v) (load_base kept v) base.0) (record { none = none; started = started; listed = seen v refl }) on
           (λ past' s rest loaded fresh on'.
-          let all : v + 1 - load_from kept v + load_from kept v ≡ suc v = omega arith in
-          loaded_then statement faithful start v reply s past' rest small (subst (λ (m : ℕ). LoadedTo (Known K past') m s) all loaded) fresh on')
+          loaded_then statement faithful start v reply s past' rest small (subst (λ (m : ℕ). LoadedTo (Known K past') m s) base.1 loaded) fresh on')
+
+      cut_or : v < version_limit → Cut reply es
+          ⊎ MatchOption (missing l (load_from kept v) (load_count kept v)) (AtLoad reply (load_count kept v) (load_from kept v) (load_base kept v) (AfterLoad tag limit statement start v reply) es) (λ k. Ends reply (refusal.LogGone (commit_text k)) es)
+          → AllLawful level K tag statement reply past es
+      cut_or small (inl short) = was_cut level K tag statement reply past es short
+      cut_or small (inr on) = from small (missing l (load_from kept v) (load_count kept v)) on
 
       by : (b : Bool) → nat_lt v version_limit ≡ b
           → MatchBool b
-          (MatchOption (missing l (load_from kept v) (v + 1 - load_from kept v)) (AtLoad reply (v + 1 - load_from kept v) (load_from kept v) (load_base kept v) (AfterLoad tag limit statement start v reply) es) (λ k. Ends reply (refusal.LogGone (commit_text k)) es))
+          (Cut reply es
+          ⊎ MatchOption (missing l (load_from kept v) (load_count kept v)) (AtLoad reply (load_count kept v) (load_from kept v) (load_base kept v) (AfterLoad tag limit statement start v reply) es) (λ k. Ends reply (refusal.LogGone (commit_text k)) es))
           (Ends reply (refusal.Unsupported Versions) es)
           → AllLawful level K tag statement reply past es
-      by true e on = from (grind (arith, nat_tests)) (missing l (load_from kept v) (v + 1 - load_from kept v)) on
+      by true e on = cut_or (grind (arith, nat_tests)) on
       by false e on = ended level K tag statement _ reply past es on
 
   -- the making of a table
