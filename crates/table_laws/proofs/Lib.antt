@@ -5,6 +5,7 @@ pub mod Winners
 pub mod Lawful
 pub mod Known
 pub mod Phases
+pub mod Paths
 pub mod Texts
 pub mod Statements
 pub mod Names

@@ -32,7 +32,6 @@ use Rattle.table_laws.proofs.Known.{knows_more}
 use Rattle.table_laws.proofs.Names.{same_file}
 use Rattle.table_laws.proofs.Journals.{InPut, Sure, Stands, Committed, End, Keeps, KeepsPart, backwards, nothing_stands, whole, given_is, own_got, got_at, stored_at, some_same}
 use Rattle.table_laws.proofs.Effects.{effect_balance, file_is, commit_is, loaded_is, same_new, same_effect, judge_same}
-use Rattle.table_laws.proofs.Texts.{TextFacts}
 use Rattle.table_laws.proofs.Statements.{answered_lawful}
 
 pub some_put : (o : Option Put) → IsSome o → (p : Put) × (o ≡ Some p)
@@ -237,7 +236,7 @@ module _ (level : Level) (K : Tag → List ℕ → List ℕ → Type 0) (script 
   once (suc v) zero p q small also is there same = absurd (no_table v q p small there is (sym same))
   once (suc v) (suc w) p q small also is there same = ap (λ (n : ℕ). suc n) (s.single v w p q small also is there same)
 
-module _ (text : TextFacts) (level : Level) (limit : ℕ) (script : Tag → Option Statement) (kepts : Tag → Option Kept) (replies : Tag → Option Reply) (moments : List Moment) (legal : IsLegal [] 0 moments) (run : IsRun limit script kepts replies (entries_of moments)) where
+module _ (level : Level) (limit : ℕ) (script : Tag → Option Statement) (kepts : Tag → Option Kept) (replies : Tag → Option Reply) (moments : List Moment) (legal : IsLegal [] 0 moments) (run : IsRun limit script kepts replies (entries_of moments)) where
   abbrev journal : Entries
   journal = entries_of moments
 
@@ -250,7 +249,7 @@ module _ (text : TextFacts) (level : Level) (limit : ℕ) (script : Tag → Opti
       part : (s : Option Statement) → script t ≡ s → IsAnsweredPart limit t (kepts t) s (own t journal) (replies t) → KeepsPart level K script replies run.tags t s (replies t) [] (own t journal)
       part None e h = h
       part (Some statement) e h =
-          answered_lawful text level (K t) t limit run.limited (kepts t) (run.kept t) statement (λ rows is. run.faithful t rows (e ∙ ap (λ (s : Statement). Some s) is)) (own t journal) (replies t) h
+          answered_lawful level (K t) t limit run.limited (kepts t) (run.kept t) statement (λ rows is. run.faithful t rows (e ∙ ap (λ (s : Statement). Some s) is)) (own t journal) (replies t) h
 
   abbrev at_end : Type 0
   at_end = End level K script replies run.tags [] journal (history [] moments)
@@ -265,15 +264,15 @@ module _ (text : TextFacts) (level : Level) (limit : ℕ) (script : Tag → Opti
     | inr kept ↦ let p = (e.stands).stored k.0 n b (stored_at k.0 e.past journal n b e.is kept) in ap body_of p.is ∙ ap (λ (b : List ℕ). Some b) p.body
   ]
 
-pub each_version_is_serial : TextFacts → EachVersionIsSerial
-each_version_is_serial text level limit script kepts replies moments legal run v small is =
-    let e = run_end text level limit script kepts replies moments legal run in
-    step level (SessionKnows (entries_of moments)) script replies run.tags e.past e.os (history [] moments) e.stands (known_at text level limit script kepts replies moments legal run e) (entries_of moments) e.is v small is
+pub each_version_is_serial : EachVersionIsSerial
+each_version_is_serial level limit script kepts replies moments legal run v small is =
+    let e = run_end level limit script kepts replies moments legal run in
+    step level (SessionKnows (entries_of moments)) script replies run.tags e.past e.os (history [] moments) e.stands (known_at level limit script kepts replies moments legal run e) (entries_of moments) e.is v small is
 
-pub each_statement_commits_once : TextFacts → EachStatementCommitsOnce
-each_statement_commits_once text limit script kepts replies moments legal run v w p q small also is there same =
-    let e = run_end text Serializable limit script kepts replies moments legal run in
-    once Serializable (SessionKnows (entries_of moments)) script replies run.tags e.past e.os (history [] moments) e.stands (known_at text Serializable limit script kepts replies moments legal run e) v w p q small also is there same
+pub each_statement_commits_once : EachStatementCommitsOnce
+each_statement_commits_once limit script kepts replies moments legal run v w p q small also is there same =
+    let e = run_end Serializable limit script kepts replies moments legal run in
+    once Serializable (SessionKnows (entries_of moments)) script replies run.tags e.past e.os (history [] moments) e.stands (known_at Serializable limit script kepts replies moments legal run e) v w p q small also is there same
 
 pub first_version_is_empty : FirstVersionIsEmpty
 first_version_is_empty moments = ap (λ (ls : List Action). rows_in (rows_of (history [] moments)) (reconciled [] ls)) (empty_first (history [] moments))

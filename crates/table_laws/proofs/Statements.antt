@@ -37,7 +37,7 @@ use Rattle.table_laws.specs.Runs.{or_first, listed_by, told_by, StoredIn, Loaded
 use Rattle.table_laws.proofs.Lawful.{Known, NoPut, AllLost, first_past, judge_of, Cleared, Knows, Claim, IsFile, IsTable, IsCommit, AllLawful}
 use Rattle.table_laws.proofs.Known.{loaded_more, knows_more}
 use Rattle.table_laws.proofs.Phases.{same_put, now_no_put, list_no_put, none_put, no_commit_put, lost_other, lost_to, given_more, known_more, Fresh, ended, was_cut, if_read, at_now, at_list, at_get, at_put_new, at_load, at_attempt}
-use Rattle.table_laws.proofs.Texts.{TextFacts, append_says}
+use Rattle.table_laws.proofs.Texts.{append_says}
 
 -- what a statement knows before an attempt, after so many lost ones
 pub record Attempts (level : Level) (K : List ℕ → List ℕ → Type 0) (tag : Tag) (op : Operation) (start read : ℕ) (s : Snapshot) (view : List ℕ → List Row) (lost : ℕ) (past : Entries) : Type 0 where
@@ -114,7 +114,7 @@ module _ (level : Level) (K : List ℕ → List ℕ → Type 0) (tag : Tag) (op 
         (λ lost past e f l put got answer version attempts small p. tt)
         reply left 0 [] past es small p h
 
-module _ (facts : TextFacts) (level : Level) (K : List ℕ → List ℕ → Type 0) (tag : Tag) (limit : ℕ) (limited : limit < 2 ^ 32) where
+module _ (level : Level) (K : List ℕ → List ℕ → Type 0) (tag : Tag) (limit : ℕ) (limited : limit < 2 ^ 32) where
   -- an append: its data file, then its commit
   appends : (rows : List Row) → rows_of_text (text_of_rows rows) ≡ Some rows → (start read : ℕ) (reply : Option Reply) (s : Snapshot) (past es : Entries) → read < version_limit → LoadedTo (Known K past) (suc read) s → Fresh start read past
       → Appends tag limit rows start read reply es → AllLawful level K tag (Insert rows) reply past es
@@ -123,7 +123,7 @@ module _ (facts : TextFacts) (level : Level) (K : List ℕ → List ℕ → Type
       (λ e rest put is on. ended level K tag (Insert rows) _ reply (e ∷ past) rest on)
       (λ e rest put is on.
       attempts level K tag (operations.Insert rows) start read s (λ p. []) (Insert rows) refl (record { text = text_of_add (data_text tag start 0); makes_table = false })
-      (append_says facts tag start rows (λ p. []) s.files) (λ k body winner clear t reads. refl)
+      (append_says tag start rows (λ p. []) s.files) (λ k body winner clear t reads. refl)
       limit reply limit (e ∷ past) rest (omega arith)
       (record {
         before = read;
