@@ -1,0 +1,606 @@
+-- What stands after a part of a journal in which each statement is answered.
+use Rattle.std.proofs.Common.{◌≡◌, ◌⊎◌, inl, inr, ℕ, suc, ◌<◌, ◌^◌, Bool, true, false, List, [], ◌∷◌, ◌++◌, refl, sym, ◌∙◌, ap, subst, arith}
+use Rattle.std.proofs.lemmas.List.{append-nil, append_assoc}
+use Rattle.std.specs.Prelude.{Option, Some, None, if◌then◌else◌}
+use Rattle.std.specs.Str.{bytes_eq}
+use Rattle.std.proofs.lemmas.Slice.Eq.{bytes_eq-Decides}
+use Rattle.edge_api.specs.declared.call.Tag.{Tag}
+use Rattle.edge_api.specs.declared.call.Call.{Call}
+use Rattle.edge_api.specs.declared.call.Call.TheVariants.{Get, PutNew, Put as Replace, List as ListNames, Delete, Now, Wait}
+use Rattle.edge_api.specs.declared.call.Answer.{Answer}
+use Rattle.edge_api.specs.declared.call.Answer.TheVariants.{Fault, Body, Missing, Stored, Taken, Names, Gone, Time, Waited}
+use Rattle.edge_api.specs.declared.call.JournalEntry.{JournalEntry}
+use Rattle.edge_api.specs.declared.call.Object.{Object}
+use Rattle.edge_api.specs.Journal.{Objects, Moment, IsLegal, Answers, answer_of, after, after_answer, effect_of, entries_of, object_at, with_object, found, stored, stored_new}
+use Rattle.op_types.specs.declared.statement.Statement.{Statement}
+use Rattle.op_types.specs.declared.statement.Statement.TheVariants.{Table}
+use Rattle.op_types.specs.declared.statement.TableSpec.{TableSpec}
+use Rattle.op_types.specs.declared.reply.Reply.{Reply}
+use Rattle.table_rules.specs.Names.{commit_text, data_text}
+use Rattle.table_rules.specs.Told.{IsTag}
+use Rattle.table_rules.proofs.Names.{commits_differ, data_is_no_commit}
+use Rattle.line_texts.specs.Texts.{text_of_columns}
+use Rattle.snapshot_replay.specs.Table.{Snapshot}
+use Rattle.call_phases.specs.Phases.{Entries}
+use Rattle.txn_machine.specs.Texts.{read_commit}
+use Rattle.txn_machine.specs.Answered.{names_of}
+use Rattle.table_laws.specs.Bags.{Row}
+use Rattle.table_laws.specs.Operations.{Operation, operation_of}
+use Rattle.table_laws.specs.Effects as effects
+use Rattle.table_laws.specs.Conflicts.{Level}
+use Rattle.table_laws.specs.History.{Put, put_under, body_of, put_if_free, puts_of, if_done, puts_at, history}
+use Rattle.table_laws.specs.Runs.{same_tag, own, or_first, listed_by, told_by, first_given, GotIn, StoredIn}
+use Rattle.table_laws.proofs.Lawful.{Known, PutIn, NoPut, first_past, Knows, IsCommitOf, MayPut, IsFile, IsTable, IsCommit, LawfulBy, AllLawful}
+use Rattle.table_laws.proofs.Known.{knows_more}
+use Rattle.table_laws.proofs.Phases.{same_put}
+use Rattle.table_laws.proofs.Names.{same_file}
+use Rattle.table_laws.proofs.Puts.{or_else, body_at, put_under-push, object_at-with, same_tag-refl, same_tag-is}
+
+-- the entries, the newest first
+abbrev pub backwards : Entries → Entries → Entries
+backwards past [] = past
+backwards past (e ∷ es) = backwards (e ∷ past) es
+
+-- this body was put under the name
+abbrev pub InPut : List Put → List ℕ → List ℕ → Type 0
+InPut ps n b = body_of (put_under ps n) ≡ Some b
+
+-- its session knows it, or it was put
+abbrev pub Sure : (Tag → List ℕ → List ℕ → Type 0) → Tag → List Put → List ℕ → List ℕ → Type 0
+Sure K tag ps n b = K tag n b ⊎ InPut ps n b
+
+-- a statement stored it
+pub record IsPutBy (ps : List Put) (t : Tag) (n b : List ℕ) : Type 0 where
+  pub put : Put
+  pub is : put_under ps n ≡ Some put
+  pub body : put.body ≡ b
+  pub tag : put.tag ≡ t
+
+sure_more : (K : Tag → List ℕ → List ℕ → Type 0) (tag : Tag) (ps qs : List Put) → ((n b : List ℕ) → InPut ps n b → InPut qs n b) → (n b : List ℕ) → Sure K tag ps n b → Sure K tag qs n b
+sure_more K tag ps qs more n b (inl before) = inl before
+sure_more K tag ps qs more n b (inr put) = inr (more n b put)
+
+-- what a statement's own entries show, all entries show
+pub own_got : (t : Tag) (past : Entries) (n b : List ℕ) → GotIn (own t past) n b → GotIn past n b
+own_got t [] n b h = h
+own_got t (e ∷ past) n b h = by (same_tag t e.tag) h (own_got t past n b)
+  where
+    by : (c : Bool) → GotIn (if c then e ∷ own t past else own t past) n b → (GotIn (own t past) n b → GotIn past n b) → GotIn (e ∷ past) n b
+    by true (inl here) rest = inl here
+    by true (inr there) rest = inr (rest there)
+    by false there rest = inr (rest there)
+
+-- a statement's newest entry, or an earlier one, stored it
+stored_now : (t : Tag) (e : JournalEntry) (past : Entries) (n b : List ℕ) → StoredIn (own t (e ∷ past)) n b → ((e.tag ≡ t) × (e.call ≡ PutNew n b) × (e.answer ≡ Stored)) ⊎ StoredIn (own t past) n b
+stored_now t e past n b h = by (same_tag t e.tag) refl h
+  where
+    by : (c : Bool) → same_tag t e.tag ≡ c → StoredIn (if c then e ∷ own t past else own t past) n b → ((e.tag ≡ t) × (e.call ≡ PutNew n b) × (e.answer ≡ Stored)) ⊎ StoredIn (own t past) n b
+    by true is (inl here) = inl (sym (same_tag-is t e.tag is), here.0, here.1)
+    by true is (inr there) = inr there
+    by false is there = inr there
+
+put_more : (t : Tag) (e : JournalEntry) (past : Entries) (n b : List ℕ) (a : Answer) → PutIn (own t past) n b a → PutIn (own t (e ∷ past)) n b a
+put_more t e past n b a h = by (same_tag t e.tag)
+  where
+    by : (c : Bool) → PutIn (if c then e ∷ own t past else own t past) n b a
+    by true = inr h
+    by false = h
+
+put_now : (e : JournalEntry) (past : Entries) (n b : List ℕ) → e.call ≡ PutNew n b → PutIn (own e.tag (e ∷ past)) n b e.answer
+put_now e past n b is = subst (λ (c : Bool). PutIn (if c then e ∷ own e.tag past else own e.tag past) n b e.answer) (sym (same_tag-refl e.tag)) (inl (is, refl))
+
+given_on : (a b : Option ℕ) (r : ℕ) → a ≡ Some r → or_first a b ≡ Some r
+given_on a b r is = ap (λ (o : Option ℕ). or_first o b) is
+
+given_more : (given : Call → Answer → Option ℕ) (t : Tag) (e : JournalEntry) (past : Entries) (r : ℕ) → first_past given (own t past) ≡ Some r → first_past given (own t (e ∷ past)) ≡ Some r
+given_more given t e past r h = by (same_tag t e.tag)
+  where
+    by : (c : Bool) → first_past given (if c then e ∷ own t past else own t past) ≡ Some r
+    by true = given_on (first_past given (own t past)) (given e.call e.answer) r h
+    by false = h
+
+first_assoc : (a b d : Option ℕ) → or_first (or_first a b) d ≡ or_first a (or_first b d)
+first_assoc None b d = refl
+first_assoc (Some a) b d = refl
+
+given_backwards : (given : Call → Answer → Option ℕ) (t : Tag) (past es : Entries) → first_past given (own t (backwards past es)) ≡ or_first (first_past given (own t past)) (first_given given (own t es))
+given_backwards given t past [] = none (first_past given (own t past))
+  where
+    none : (a : Option ℕ) → a ≡ or_first a None
+    none None = refl
+    none (Some a) = refl
+given_backwards given t past (e ∷ es) = given_backwards given t (e ∷ past) es ∙ by (same_tag t e.tag)
+  where
+    by : (c : Bool) → or_first (first_past given (if c then e ∷ own t past else own t past)) (first_given given (own t es)) ≡ or_first (first_past given (own t past)) (first_given given (if c then e ∷ own t es else own t es))
+    by true = first_assoc (first_past given (own t past)) (given e.call e.answer) (first_given given (own t es))
+    by false = refl
+
+-- what the entries give first, in the order of the journal
+pub given_is : (given : Call → Answer → Option ℕ) (t : Tag) (past es : Entries) → past ≡ backwards [] es → first_past given (own t past) ≡ first_given given (own t es)
+given_is given t past es is = ap (λ (l : Entries). first_past given (own t l)) is ∙ given_backwards given t [] es
+
+got_backwards : (t : Tag) (past es : Entries) (n b : List ℕ) → GotIn (own t past) n b ⊎ GotIn (own t es) n b → GotIn (own t (backwards past es)) n b
+got_backwards t past [] n b (inl h) = h
+got_backwards t past [] n b (inr h) = absurd h
+got_backwards t past (e ∷ es) n b h = got_backwards t (e ∷ past) es n b (by (same_tag t e.tag) h)
+  where
+    by : (c : Bool) → GotIn (own t past) n b ⊎ GotIn (if c then e ∷ own t es else own t es) n b → GotIn (if c then e ∷ own t past else own t past) n b ⊎ GotIn (own t es) n b
+    by true (inl h) = inl (inr h)
+    by true (inr (inl h)) = inl (inl h)
+    by true (inr (inr h)) = inr h
+    by false h = h
+
+stored_backwards : (t : Tag) (past es : Entries) (n b : List ℕ) → StoredIn (own t past) n b ⊎ StoredIn (own t es) n b → StoredIn (own t (backwards past es)) n b
+stored_backwards t past [] n b (inl h) = h
+stored_backwards t past [] n b (inr h) = absurd h
+stored_backwards t past (e ∷ es) n b h = stored_backwards t (e ∷ past) es n b (by (same_tag t e.tag) h)
+  where
+    by : (c : Bool) → StoredIn (own t past) n b ⊎ StoredIn (if c then e ∷ own t es else own t es) n b → StoredIn (if c then e ∷ own t past else own t past) n b ⊎ StoredIn (own t es) n b
+    by true (inl h) = inl (inr h)
+    by true (inr (inl h)) = inl (inl h)
+    by true (inr (inr h)) = inr h
+    by false h = h
+
+-- what an entry of the journal shows is shown at the end
+pub got_at : (t : Tag) (past es : Entries) (n b : List ℕ) → past ≡ backwards [] es → GotIn (own t es) n b → GotIn (own t past) n b
+got_at t past es n b is h = subst (λ (l : Entries). GotIn (own t l) n b) (sym is) (got_backwards t [] es n b (inr h))
+
+pub stored_at : (t : Tag) (past es : Entries) (n b : List ℕ) → past ≡ backwards [] es → StoredIn (own t es) n b → StoredIn (own t past) n b
+stored_at t past es n b is h = subst (λ (l : Entries). StoredIn (own t l) n b) (sym is) (stored_backwards t [] es n b (inr h))
+
+kept_put : (x y : Option Put) (p : Put) → x ≡ Some p → or_else x y ≡ Some p
+kept_put None y p h = cc
+kept_put (Some q) y p h = h
+
+kept_body : (x y : Option Put) (b : List ℕ) → body_of x ≡ Some b → body_of (or_else x y) ≡ Some b
+kept_body None y b h = cc
+kept_body (Some p) y b h = h
+
+old_or_new : (x y : Option Put) (q : Put) → or_else x y ≡ Some q → (x ≡ Some q) ⊎ (y ≡ Some q)
+old_or_new None y q h = inr h
+old_or_new (Some p) y q h = inl h
+
+one_if : (p q : Put) (b : Bool) → (if b then Some p else None) ≡ Some q → (b ≡ true) × (p ≡ q)
+one_if p q true h = (refl, cc)
+one_if p q false h = cc
+
+one_under : (p q : Put) (n : List ℕ) → put_under (p ∷ []) n ≡ Some q → (p.name ≡ n) × (p ≡ q)
+one_under p q n h = let two = one_if p q (bytes_eq p.name n) h in ((bytes_eq-Decides p.name n).0 two.0, two.1)
+
+one_itself : (p : Put) → put_under (p ∷ []) p.name ≡ Some p
+one_itself p = ap (λ (b : Bool). if b then Some p else None) ((bytes_eq-Decides p.name p.name).1 refl)
+
+suc_same : (v w : ℕ) → suc v ≡ suc w → v ≡ w
+suc_same v w h = omega arith
+
+pub some_same : {A : Type 0} (x y : A) → Some x ≡ Some y → x ≡ y
+some_same x y h = cc
+
+same_if_done : (a : Answer) (u : Bool) → if_done a u [] ≡ []
+same_if_done Fault true = refl
+same_if_done Fault false = refl
+same_if_done (Body b) u = refl
+same_if_done Missing u = refl
+same_if_done Stored u = refl
+same_if_done Taken u = refl
+same_if_done (Names l) u = refl
+same_if_done Gone u = refl
+same_if_done (Time t) u = refl
+same_if_done Waited u = refl
+
+same_after : (a : Answer) (u : Bool) (os : Objects) → after_answer a u os os ≡ os
+same_after Fault true os = refl
+same_after Fault false os = refl
+same_after (Body b) u os = refl
+same_after Missing u os = refl
+same_after Stored u os = refl
+same_after Taken u os = refl
+same_after (Names l) u os = refl
+same_after Gone u os = refl
+same_after (Time t) u os = refl
+same_after Waited u os = refl
+
+module _ (level : Level) (K : Tag → List ℕ → List ℕ → Type 0) (script : Tag → Option Statement) (replies : Tag → Option Reply) (tags : (tag : Tag) (statement : Statement) → script tag ≡ Some statement → IsTag tag) where
+  -- a statement's entries from here on are lawful
+  abbrev pub KeepsPart : Tag → Option Statement → Option Reply → Entries → Entries → Type 0
+  KeepsPart tag None reply past es = es ≡ []
+  KeepsPart tag (Some statement) reply past es = AllLawful level (K tag) tag statement reply past es
+
+  abbrev pub Keeps : Entries → Entries → Type 0
+  Keeps past es = (t : Tag) → KeepsPart t (script t) (replies t) (own t past) (own t es)
+
+  keeps_one : (t : Tag) (b : Bool) (s : Option Statement) (r : Option Reply) (e : JournalEntry) (past es : Entries) → KeepsPart t s r past (if b then e ∷ es else es) → KeepsPart t s r (if b then e ∷ past else past) es
+  keeps_one t true None r e past es h = cc
+  keeps_one t true (Some statement) r e past es h = h.1
+  keeps_one t false s r e past es h = h
+
+  keeps_rest : (past : Entries) (e : JournalEntry) (es : Entries) → Keeps past (e ∷ es) → Keeps (e ∷ past) es
+  keeps_rest past e es h t = keeps_one t (same_tag t e.tag) (script t) (replies t) e (own t past) (own t es) (h t)
+
+  lawful_one : (t : Tag) (s : Option Statement) (r : Option Reply) (e : JournalEntry) (past es : Entries) → KeepsPart t s r past (e ∷ es) → (statement : Statement) × (s ≡ Some statement) × LawfulBy level (K t) t statement past e.call
+  lawful_one t None r e past es h = cc
+  lawful_one t (Some statement) r e past es h = (statement, refl, h.0)
+
+  lawful_next : (past : Entries) (e : JournalEntry) (es : Entries) → Keeps past (e ∷ es) → (statement : Statement) × (script e.tag ≡ Some statement) × LawfulBy level (K e.tag) e.tag statement (own e.tag past) e.call
+  lawful_next past e es h =
+      lawful_one e.tag (script e.tag) (replies e.tag) e (own e.tag past) (own e.tag es)
+      (subst (λ (b : Bool). KeepsPart e.tag (script e.tag) (replies e.tag) (own e.tag past) (if b then e ∷ own e.tag es else own e.tag es)) (same_tag-refl e.tag) (h e.tag))
+
+  -- a commit that took effect
+  pub record Committed (past : Entries) (ps : List Put) (v : ℕ) (p : Put) : Type 0 where
+    pub statement : Statement
+    pub is_statement : script p.tag ≡ Some statement
+    pub op : Operation
+    pub is_op : operation_of statement ≡ Some op
+    pub start : ℕ
+    pub read : ℕ
+    pub s : Snapshot
+    pub view : List ℕ → List Row
+    pub says : read_commit (suc v) p.body ≡ Some (effects.effect_of p.tag start op view s.files)
+    pub knows : Knows level p.tag op start read s view (Sure K p.tag ps) (InPut ps) v
+    pub started : first_past told_by (own p.tag past) ≡ Some start
+    pub listed : first_past listed_by (own p.tag past) ≡ Some read
+    pub answer : Answer
+    pub made : PutIn (own p.tag past) (commit_text (suc v)) p.body answer
+    pub landed : answer ≡ Taken → ⊥
+
+  abbrev pub IsMade : Put → Type 0
+  IsMade p = (spec : TableSpec) × (script p.tag ≡ Some (Table spec)) × (p.body ≡ text_of_columns (names_of spec.columns))
+
+  pub record Stands (past : Entries) (os : Objects) (ps : List Put) : Type 0 where
+    pub agree : (n b : List ℕ) → body_at (object_at os n) ≡ Some b → InPut ps n b
+    pub logs : (v : ℕ) → object_at os (commit_text v) ≡ None → put_under ps (commit_text v) ≡ None
+    pub owned : (t : Tag) (start : ℕ) (q : Put) → IsTag t → put_under ps (data_text t start 0) ≡ Some q → (a : Answer) × PutIn (own t past) (data_text t start 0) q.body a
+    pub got : (n b : List ℕ) → GotIn past n b → InPut ps n b
+    pub stored : (t : Tag) (n b : List ℕ) → StoredIn (own t past) n b → IsPutBy ps t n b
+    pub table : (p : Put) → put_under ps (commit_text 0) ≡ Some p → IsMade p
+    pub commits : (v : ℕ) (p : Put) → suc v < 2 ^ 64 → put_under ps (commit_text (suc v)) ≡ Some p → Committed past ps v p
+    pub single : (v w : ℕ) (p q : Put) → suc v < 2 ^ 64 → suc w < 2 ^ 64 → put_under ps (commit_text (suc v)) ≡ Some p → put_under ps (commit_text (suc w)) ≡ Some q → p.tag ≡ q.tag → v ≡ w
+
+  pub nothing_stands : Stands [] [] []
+  nothing_stands = record {
+    agree = λ n b h. cc;
+    logs = λ v h. refl;
+    owned = λ t start q is h. cc;
+    got = λ n b h. absurd h;
+    stored = λ t n b h. absurd h;
+    table = λ p h. cc;
+    commits = λ v p small h. cc;
+    single = λ v w p q small also h k e. cc;
+  }
+
+  put_by_more : (ps qs : List Put) → ((n : List ℕ) (p : Put) → put_under ps n ≡ Some p → put_under qs n ≡ Some p) → (t : Tag) (n b : List ℕ) → IsPutBy ps t n b → IsPutBy qs t n b
+  put_by_more ps qs more t n b h = record { put = h.put; is = more n h.put h.is; body = h.body; tag = h.tag }
+
+  commit_more : (past : Entries) (ps qs : List Put) (e : JournalEntry) (v : ℕ) (p : Put) → ((n b : List ℕ) → InPut ps n b → InPut qs n b) → Committed past ps v p → Committed (e ∷ past) qs v p
+  commit_more past ps qs e v p more k = record {
+    statement = k.statement;
+    is_statement = k.is_statement;
+    op = k.op;
+    is_op = k.is_op;
+    start = k.start;
+    read = k.read;
+    s = k.s;
+    view = k.view;
+    says = k.says;
+    knows = knows_more level p.tag k.op k.start k.read k.s k.view (Sure K p.tag ps) (InPut ps) (Sure K p.tag qs) (InPut qs) v (sure_more K p.tag ps qs more) more k.knows;
+    started = given_more told_by p.tag e past _ k.started;
+    listed = given_more listed_by p.tag e past _ k.listed;
+    answer = k.answer;
+    made = put_more p.tag e past _ _ _ k.made;
+    landed = k.landed;
+  }
+
+  -- an entry that puts nothing
+  unchanged : (past : Entries) (os : Objects) (ps : List Put) (e : JournalEntry) → Stands past os ps
+      → ((n b : List ℕ) → e.call ≡ Get n → e.answer ≡ Body b → InPut ps n b)
+      → ((n b : List ℕ) → e.call ≡ PutNew n b → e.answer ≡ Stored → ⊥) → Stands (e ∷ past) os ps
+  unchanged past os ps e s gets stores = record {
+    agree = s.agree;
+    logs = s.logs;
+    owned = λ t start q is h. let o = s.owned t start q is h in (o.0, put_more t e past _ _ _ o.1);
+    got = λ n b h. elim h [ inl now ↦ gets n b now.0 now.1 | inr before ↦ s.got n b before ];
+    stored = λ t n b h. elim (stored_now t e past n b h) [ inl now ↦ absurd (stores n b now.1 now.2) | inr before ↦ s.stored t n b before ];
+    table = s.table;
+    commits = λ v p small h. commit_more past ps ps e v p (λ n b k. k) (s.commits v p small h);
+    single = s.single;
+  }
+
+  -- the one put that is new, if it is a commit
+  new_commit : (tag : Tag) (statement : Statement) (past : Entries) (name body : List ℕ) (v : ℕ) → suc v < 2 ^ 64 → MayPut level (K tag) tag statement past name body → name ≡ commit_text (suc v)
+      → (k : IsCommitOf level (K tag) tag statement past name body) × (k.version ≡ v)
+  new_commit tag statement past name body v small (IsFile start is fresh) h = absurd (data_is_no_commit tag start 0 (suc v) (sym is ∙ h))
+  new_commit tag statement past name body v small (IsTable spec is_table is text) h = let e : ◌≡◌ {A = ℕ} 0 (suc v) = commits_differ 0 (suc v) (omega arith) small (sym is ∙ h) in absurd (omega arith)
+  new_commit tag statement past name body v small (IsCommit k) h = (k, suc_same k.version v (commits_differ (suc k.version) (suc v) k.small small (sym k.is ∙ h)))
+
+  new_table : (tag : Tag) (statement : Statement) (past : Entries) (name body : List ℕ) → script tag ≡ Some statement → MayPut level (K tag) tag statement past name body → name ≡ commit_text 0
+      → (spec : TableSpec) × (script tag ≡ Some (Table spec)) × (body ≡ text_of_columns (names_of spec.columns))
+  new_table tag statement past name body by (IsFile start is fresh) h = absurd (data_is_no_commit tag start 0 0 (sym is ∙ h))
+  new_table tag statement past name body by (IsTable spec is_table is text) h = (spec, by ∙ ap (λ (s : Statement). Some s) is_table, text)
+  new_table tag statement past name body by (IsCommit k) h = let e : ◌≡◌ {A = ℕ} (suc k.version) 0 = commits_differ (suc k.version) 0 k.small (omega arith) (sym k.is ∙ h) in absurd (omega arith)
+
+  module _ (past : Entries) (os : Objects) (ps : List Put) (s : Stands past os ps)
+      (tag : Tag) (name body : List ℕ) (answer : Answer) (clock : ℕ) (statement : Statement) (is_statement : script tag ≡ Some statement) (may : MayPut level (K tag) tag statement (own tag past) name body)
+      (free : object_at os name ≡ None) (not_taken : answer ≡ Taken → ⊥) where
+    abbrev the_entry : JournalEntry
+    the_entry = record { tag = tag; call = PutNew name body; answer = answer }
+
+    abbrev the_put : Put
+    the_put = record { tag = tag; name = name; body = body; at = clock }
+
+    abbrev the_object : Object
+    the_object = record { body = body; put_at = clock }
+
+    abbrev now : Objects
+    now = with_object os name the_object
+
+    abbrev more : List Put
+    more = ps ++ the_put ∷ []
+
+    push : (n : List ℕ) → put_under more n ≡ or_else (put_under ps n) (put_under (the_put ∷ []) n)
+    push n = put_under-push ps the_put n
+
+    still : (n b : List ℕ) → InPut ps n b → InPut more n b
+    still n b h = ap body_of (push n) ∙ kept_body (put_under ps n) (put_under (the_put ∷ []) n) b h
+
+    still_put : (n : List ℕ) (p : Put) → put_under ps n ≡ Some p → put_under more n ≡ Some p
+    still_put n p h = push n ∙ kept_put (put_under ps n) (put_under (the_put ∷ []) n) p h
+
+    free_log : (v : ℕ) → name ≡ commit_text v → put_under ps name ≡ None
+    free_log v is = ap (λ (n : List ℕ). put_under ps n) is ∙ s.logs v (ap (λ (n : List ℕ). object_at os n) (sym is) ∙ free)
+
+    free_file : (start : ℕ) → name ≡ data_text tag start 0 → NoPut (own tag past) → (o : Option Put) → put_under ps (data_text tag start 0) ≡ o → o ≡ None
+    free_file start is fresh None e = refl
+    free_file start is fresh (Some q) e = let o = s.owned tag start q (tags tag statement is_statement) e in absurd (fresh _ _ _ o.1)
+
+    free_by : MayPut level (K tag) tag statement (own tag past) name body → put_under ps name ≡ None
+    free_by (IsFile start is fresh) = ap (λ (n : List ℕ). put_under ps n) is ∙ free_file start is fresh (put_under ps (data_text tag start 0)) refl
+    free_by (IsTable spec is_table is text) = free_log 0 is
+    free_by (IsCommit k) = free_log (suc k.version) k.is
+
+    there_now : put_under more name ≡ Some the_put
+    there_now = push name ∙ ap (λ (o : Option Put). or_else o (put_under (the_put ∷ []) name)) (free_by may) ∙ one_itself the_put
+
+    which : (n : List ℕ) (q : Put) → put_under more n ≡ Some q → (put_under ps n ≡ Some q) ⊎ ((name ≡ n) × (the_put ≡ q))
+    which n q h = elim (old_or_new (put_under ps n) (put_under (the_put ∷ []) n) q (sym (push n) ∙ h)) [ inl old ↦ inl old | inr new ↦ inr (one_under the_put q n new) ]
+
+    object_new : (n : List ℕ) → object_at now n ≡ or_else (object_at os n) (object_at ((name, the_object) ∷ []) n)
+    object_new n = object_at-with os name the_object n free
+
+    add_agree : (n b : List ℕ) → body_at (object_at now n) ≡ Some b → InPut more n b
+    add_agree n b h = by (object_at os n) refl (sym (ap body_at (object_new n)) ∙ h)
+      where
+        new_one : (q : Bool) → bytes_eq name n ≡ q → body_at (if q then Some the_object else None) ≡ Some b → InPut more n b
+        new_one true e h = subst (λ (m : List ℕ). InPut more m b) ((bytes_eq-Decides name n).0 e) (ap body_of there_now ∙ h)
+        new_one false e h = cc
+
+        by : (o : Option Object) → object_at os n ≡ o → body_at (or_else o (object_at ((name, the_object) ∷ []) n)) ≡ Some b → InPut more n b
+        by (Some x) e h = still n b (s.agree n b (ap body_at e ∙ h))
+        by None e h = new_one (bytes_eq name n) refl h
+
+    add_logs : (v : ℕ) → object_at now (commit_text v) ≡ None → put_under more (commit_text v) ≡ None
+    add_logs v h = by (object_at os (commit_text v)) refl (sym (object_new (commit_text v)) ∙ h)
+      where
+        new_none : (q : Bool) → (if q then Some the_object else None) ≡ None → (if q then Some the_put else None) ≡ None
+        new_none true h = cc
+        new_none false h = refl
+
+        by : (o : Option Object) → object_at os (commit_text v) ≡ o → or_else o (object_at ((name, the_object) ∷ []) (commit_text v)) ≡ None → put_under more (commit_text v) ≡ None
+        by (Some x) e h = cc
+        by None e h = push (commit_text v) ∙ ap (λ (o : Option Put). or_else o (put_under (the_put ∷ []) (commit_text v))) (s.logs v e) ∙ new_none (bytes_eq name (commit_text v)) h
+
+    add_owned : (t : Tag) (start : ℕ) (q : Put) → IsTag t → put_under more (data_text t start 0) ≡ Some q → (a : Answer) × PutIn (own t (the_entry ∷ past)) (data_text t start 0) q.body a
+    add_owned t start q right h = elim (which (data_text t start 0) q h) [
+      | inl old ↦ let o = s.owned t start q right old in (o.0, put_more t the_entry past _ _ _ o.1)
+      | inr new ↦
+          let whose : tag ≡ t = mine may new.0 in (
+            answer,
+            subst (λ (u : Tag). PutIn (own u (the_entry ∷ past)) (data_text t start 0) q.body answer) whose
+                (subst (λ (b : List ℕ). PutIn (own tag (the_entry ∷ past)) (data_text t start 0) b answer) (ap (λ (p : Put). p.body) new.1)
+                (put_now the_entry past (data_text t start 0) body (ap (λ (n : List ℕ). PutNew n body) new.0))),
+          )
+    ]
+      where
+        mine : MayPut level (K tag) tag statement (own tag past) name body → name ≡ data_text t start 0 → tag ≡ t
+        mine (IsFile i is fresh) h = same_file tag t i start (tags tag statement is_statement) right (sym is ∙ h)
+        mine (IsTable spec is_table is text) h = absurd (data_is_no_commit t start 0 0 (sym h ∙ is))
+        mine (IsCommit k) h = absurd (data_is_no_commit t start 0 (suc k.version) (sym h ∙ k.is))
+
+    add_stored : (t : Tag) (n b : List ℕ) → StoredIn (own t (the_entry ∷ past)) n b → IsPutBy more t n b
+    add_stored t n b h = elim (stored_now t the_entry past n b h) [
+      | inl now ↦
+          let two = same_put name body n b now.1 in
+          record { put = the_put; is = ap (λ (m : List ℕ). put_under more m) (sym two.0) ∙ there_now; body = two.1; tag = now.0 }
+      | inr before ↦ put_by_more ps more still_put t n b (s.stored t n b before)
+    ]
+
+    add_got : (n b : List ℕ) → GotIn (the_entry ∷ past) n b → InPut more n b
+    add_got n b (inl now) = let bad = now.0 in cc
+    add_got n b (inr before) = still n b (s.got n b before)
+
+    add_table : (q : Put) → put_under more (commit_text 0) ≡ Some q → IsMade q
+    add_table q h = elim (which (commit_text 0) q h) [
+      | inl old ↦ s.table q old
+      | inr new ↦ subst IsMade new.1 (new_table tag statement (own tag past) name body is_statement may new.0)
+    ]
+
+    this_commit : (v : ℕ) → suc v < 2 ^ 64 → name ≡ commit_text (suc v) → Committed (the_entry ∷ past) more v the_put
+    this_commit v small is =
+        let two = new_commit tag statement (own tag past) name body v small may is in
+        let k = two.0 in
+        record {
+          statement = statement;
+          is_statement = is_statement;
+          op = k.op;
+          is_op = k.is_op;
+          start = k.start;
+          read = k.read;
+          s = k.s;
+          view = k.view;
+          says = subst (λ (w : ℕ). read_commit (suc w) body ≡ Some (effects.effect_of tag k.start k.op k.view (k.s).files)) two.1 k.says;
+          knows = subst (λ (w : ℕ). Knows level tag k.op k.start k.read k.s k.view (Sure K tag more) (InPut more) w) two.1
+              (knows_more level tag k.op k.start k.read k.s k.view (Known (K tag) (own tag past)) (StoredIn (own tag past)) (Sure K tag more) (InPut more) k.version
+              (λ n b h. elim h [ inl before ↦ inl before | inr got ↦ inr (still n b (s.got n b (own_got tag past n b got))) ])
+              (λ n b h. let p = s.stored tag n b h in still n b (ap body_of p.is ∙ ap (λ (b : List ℕ). Some b) p.body)) k.knows);
+          started = given_more told_by tag the_entry past _ k.started;
+          listed = given_more listed_by tag the_entry past _ k.listed;
+          answer = answer;
+          made = put_now the_entry past (commit_text (suc v)) body (ap (λ (n : List ℕ). PutNew n body) is);
+          landed = not_taken;
+        }
+
+    add_commits : (v : ℕ) (q : Put) → suc v < 2 ^ 64 → put_under more (commit_text (suc v)) ≡ Some q → Committed (the_entry ∷ past) more v q
+    add_commits v q small h = elim (which (commit_text (suc v)) q h) [
+      | inl old ↦ commit_more past ps more the_entry v q still (s.commits v q small old)
+      | inr new ↦ subst (λ (p : Put). Committed (the_entry ∷ past) more v p) new.1 (this_commit v small new.0)
+    ]
+
+    -- no statement lands twice
+    not_again : (v w : ℕ) (q : Put) → suc v < 2 ^ 64 → suc w < 2 ^ 64 → name ≡ commit_text (suc v) → put_under ps (commit_text (suc w)) ≡ Some q → tag ≡ q.tag → ⊥
+    not_again v w q small also is old same =
+        let k = (new_commit tag statement (own tag past) name body v small may is).0 in
+        let there = s.commits w q also old in
+        let made = subst (λ (t : Tag). PutIn (own t past) (commit_text (suc w)) q.body there.answer) (sym same) there.made in
+        elim (k.lost (suc w) q.body there.answer made) [
+          | inl was_taken ↦ there.landed was_taken
+          | inr other ↦ other.2 (sym (some_same q.body other.0 (sym (ap body_of old) ∙ s.got (commit_text (suc w)) other.0 (own_got tag past _ _ other.1))))
+        ]
+
+    add_single : (v w : ℕ) (p q : Put) → suc v < 2 ^ 64 → suc w < 2 ^ 64 → put_under more (commit_text (suc v)) ≡ Some p → put_under more (commit_text (suc w)) ≡ Some q → p.tag ≡ q.tag → v ≡ w
+    add_single v w p q small also h k same = elim (which (commit_text (suc v)) p h) [
+      | inl old ↦ elim (which (commit_text (suc w)) q k) [
+        | inl old' ↦ s.single v w p q small also old old' same
+        | inr new ↦ absurd (not_again w v p also small new.0 old (ap (λ (x : Put). x.tag) new.1 ∙ sym same))
+      ]
+      | inr new ↦ elim (which (commit_text (suc w)) q k) [
+        | inl old' ↦ absurd (not_again v w q small also new.0 old' (ap (λ (x : Put). x.tag) new.1 ∙ same))
+        | inr new' ↦ suc_same v w (commits_differ (suc v) (suc w) small also (sym new.0 ∙ new'.0))
+      ]
+    ]
+
+    added : Stands (the_entry ∷ past) now more
+    added = record { agree = add_agree; logs = add_logs; owned = add_owned; got = add_got; stored = add_stored; table = add_table; commits = add_commits; single = add_single }
+
+  module _ (past : Entries) (os : Objects) (ps : List Put) (s : Stands past os ps) where
+    -- nothing is put
+    idle : (e : JournalEntry) (now : Objects) (new : List Put) → now ≡ os → new ≡ [] → ((n b : List ℕ) → e.call ≡ Get n → e.answer ≡ Body b → InPut ps n b)
+        → ((n b : List ℕ) → e.call ≡ PutNew n b → e.answer ≡ Stored → ⊥) → Stands (e ∷ past) now (ps ++ new)
+    idle e now new same none gets stores =
+        let here = unchanged past os ps e s gets stores in
+        subst (λ (o : Objects). Stands (e ∷ past) o (ps ++ new)) (sym same)
+        (subst (λ (q : List Put). Stands (e ∷ past) os q) (sym (ap (λ (q : List Put). ps ++ q) none ∙ append-nil ps)) here)
+
+    body_found : (o : Option Object) (a : Answer) (b : List ℕ) → Answers a (found o) → a ≡ Body b → body_at o ≡ Some b
+    body_found o Fault b right is = cc
+    body_found (Some x) (Body d) b right is = cc
+    body_found None (Body d) b right is = cc
+    body_found o Missing b right is = cc
+    body_found o Stored b right is = cc
+    body_found o Taken b right is = cc
+    body_found o (Names l) b right is = cc
+    body_found o Gone b right is = cc
+    body_found o (Time t) b right is = cc
+    body_found o Waited b right is = cc
+
+    same_name : (m n : List ℕ) → Get m ≡ Get n → m ≡ n
+    same_name m n h = cc
+
+    get_shows : (name : List ℕ) (a : Answer) → Answers a (found (object_at os name)) → (n b : List ℕ) → Get name ≡ Get n → a ≡ Body b → InPut ps n b
+    get_shows name a right n b is body = subst (λ (m : List ℕ). InPut ps m b) (same_name name n is) (s.agree name b (body_found (object_at os name) a b right body))
+
+    not_stored : (a : Answer) → Answers a Taken → a ≡ Stored → ⊥
+    not_stored Fault right is = cc
+    not_stored (Body b) right is = cc
+    not_stored Missing right is = cc
+    not_stored Stored right is = cc
+    not_stored Taken right is = cc
+    not_stored (Names l) right is = cc
+    not_stored Gone right is = cc
+    not_stored (Time t) right is = cc
+    not_stored Waited right is = cc
+
+    -- a put, by what is under its name
+    module _ (tag : Tag) (name body : List ℕ) (clock : ℕ) (statement : Statement) (is_statement : script tag ≡ Some statement) (may : MayPut level (K tag) tag statement (own tag past) name body) where
+      abbrev entry_of : Answer → JournalEntry
+      entry_of a = record { tag = tag; call = PutNew name body; answer = a }
+
+      abbrev put_here : Put
+      put_here = record { tag = tag; name = name; body = body; at = clock }
+
+      abbrev object_now : Object
+      object_now = record { body = body; put_at = clock }
+
+      abbrev Next : Answer → Bool → Option Object → Type 0
+      Next a u o = Stands (entry_of a ∷ past) (after_answer a u os (stored_new o os name object_now)) (ps ++ if_done a u (put_if_free o put_here))
+
+      at_free : (a : Answer) (u : Bool) → object_at os name ≡ None → Answers a Stored → Next a u None
+      at_free Stored u free right = added past os ps s tag name body Stored clock statement is_statement may free (λ h. cc)
+      at_free Fault true free right = added past os ps s tag name body Fault clock statement is_statement may free (λ h. cc)
+      at_free Fault false free right = idle (entry_of Fault) os [] refl refl (λ n b h k. cc) (λ n b h k. cc)
+      at_free (Body b) u free right = cc
+      at_free Missing u free right = cc
+      at_free Taken u free right = cc
+      at_free (Names l) u free right = cc
+      at_free Gone u free right = cc
+      at_free (Time t) u free right = cc
+      at_free Waited u free right = cc
+
+      at_there : (a : Answer) (u : Bool) (o : Object) → Answers a Taken → Next a u (Some o)
+      at_there a u o right = idle (entry_of a) (after_answer a u os os) (if_done a u []) (same_after a u os) (same_if_done a u) (λ n b h k. cc) (λ n b h k. not_stored a right k)
+
+      at_either : (a : Answer) (u : Bool) (o : Option Object) → object_at os name ≡ o → Answers a (stored o) → Next a u o
+      at_either a u None is right = at_free a u is right
+      at_either a u (Some o) is right = at_there a u o right
+
+    call_step : (tag : Tag) (call : Call) (a : Answer) (clock : ℕ) (u : Bool) (statement : Statement) → script tag ≡ Some statement → LawfulBy level (K tag) tag statement (own tag past) call → Answers a (answer_of os clock call)
+        → Stands (record { tag = tag; call = call; answer = a } ∷ past) (after_answer a u os (effect_of os clock call)) (ps ++ if_done a u (puts_of os tag clock call))
+    call_step tag (Get name) a clock u statement is_statement lawful right = idle (record { tag = tag; call = Get name; answer = a }) (after_answer a u os os) (if_done a u []) (same_after a u os) (same_if_done a u) (get_shows name a right) (λ n b h k. cc)
+    call_step tag (PutNew name body) a clock u statement is_statement lawful right = at_either tag name body clock statement is_statement lawful a u (object_at os name) refl right
+    call_step tag (Replace name body) a clock u statement is_statement lawful right = absurd lawful
+    call_step tag (ListNames prefix) a clock u statement is_statement lawful right = idle (record { tag = tag; call = ListNames prefix; answer = a }) (after_answer a u os os) (if_done a u []) (same_after a u os) (same_if_done a u) (λ n b h k. cc) (λ n b h k. cc)
+    call_step tag (Delete name) a clock u statement is_statement lawful right = absurd lawful
+    call_step tag Now a clock u statement is_statement lawful right = idle (record { tag = tag; call = Now; answer = a }) (after_answer a u os os) (if_done a u []) (same_after a u os) (same_if_done a u) (λ n b h k. cc) (λ n b h k. cc)
+    call_step tag (Wait time) a clock u statement is_statement lawful right = idle (record { tag = tag; call = Wait time; answer = a }) (after_answer a u os os) (if_done a u []) (same_after a u os) (same_if_done a u) (λ n b h k. cc) (λ n b h k. cc)
+
+  -- an object that is no commit may go
+  pub gone : (past : Entries) (os now : Objects) (ps : List Put) (name : List ℕ) → Stands past os ps → ((v : ℕ) → name ≡ commit_text v → ⊥)
+      → ((n : List ℕ) → (name ≡ n → ⊥) → object_at now n ≡ object_at os n) → object_at now name ≡ None → Stands past now ps
+  gone past os now ps name s no_commit others deleted = record {
+    agree = λ n b h. by n b (bytes_eq name n) refl h;
+    logs = λ v h. s.logs v (sym (others (commit_text v) (no_commit v)) ∙ h);
+    owned = s.owned;
+    got = s.got;
+    stored = s.stored;
+    table = s.table;
+    commits = s.commits;
+    single = s.single;
+  }
+    where
+      by : (n b : List ℕ) (q : Bool) → bytes_eq name n ≡ q → body_at (object_at now n) ≡ Some b → InPut ps n b
+      by n b true e h =
+          let none : None ≡ Some b = sym (ap body_at deleted) ∙ ap (λ (m : List ℕ). body_at (object_at now m)) ((bytes_eq-Decides name n).0 e) ∙ h in
+          absurd (no_some b none)
+        where
+          no_some : (b : List ℕ) → None ≡ Some b → ⊥
+          no_some b h = cc
+      by n b false e h = s.agree n b (sym (ap body_at (others n (apart e))) ∙ h)
+        where
+          apart : bytes_eq name n ≡ false → name ≡ n → ⊥
+          apart e same = let bad : true ≡ false = sym ((bytes_eq-Decides name n).1 same) ∙ e in cc
+
+  -- what stands at the end
+  pub record End (before es : Entries) (ps : List Put) : Type 0 where
+    pub past : Entries
+    pub is : past ≡ backwards before es
+    pub os : Objects
+    pub stands : Stands past os ps
+    pub keeps : Keeps past []
+
+  pub whole : (ms : List Moment) (past : Entries) (os : Objects) (ps : List Put) (clock : ℕ) → Stands past os ps → IsLegal os clock ms → Keeps past (entries_of ms) → End past (entries_of ms) (ps ++ history os ms)
+  whole [] past os ps clock s legal keeps = subst (End past []) (sym (append-nil ps)) (record { past = past; is = refl; os = os; stands = s; keeps = keeps })
+  whole (m ∷ ms) past os ps clock s legal keeps =
+      let next = lawful_next past m.entry (entries_of ms) keeps in
+      let here = call_step past os ps s m.entry.tag m.entry.call m.entry.answer m.clock m.took_effect next.0 next.1 next.2 legal.1 in
+      let rest = whole ms (m.entry ∷ past) (after os m) (ps ++ puts_at os m) m.clock here legal.2 (keeps_rest past m.entry (entries_of ms) keeps) in
+      subst (End past (m.entry ∷ entries_of ms)) (append_assoc ps (puts_at os m) (history (after os m) ms))
+      (record { past = rest.past; is = rest.is; os = rest.os; stands = rest.stands; keeps = rest.keeps })

@@ -1,0 +1,34 @@
+-- What is known stays known.
+use Rattle.std.proofs.Common.{ℕ, zero, suc, List, [], ◌∷◌}
+use Rattle.std.specs.Prelude.{Option}
+use Rattle.edge_api.specs.declared.call.Tag.{Tag}
+use Rattle.snapshot_replay.specs.Table.{Commit, Snapshot}
+use Rattle.table_laws.specs.Bags.{Row}
+use Rattle.table_laws.specs.Operations.{Operation}
+use Rattle.table_laws.specs.Conflicts.{Level, FileClash}
+use Rattle.table_laws.specs.Runs.{LoadedTo}
+use Rattle.table_laws.proofs.Lawful.{AllGot, Cleared, Knows}
+
+module _ (G H : List ℕ → List ℕ → Type 0) (more : (n b : List ℕ) → G n b → H n b) where
+  pub loaded_more : (v : ℕ) (s : Snapshot) → LoadedTo G v s → LoadedTo H v s
+  loaded_more zero s h = h
+  loaded_more (suc v) s h = (h.0, h.1, h.2, loaded_more v h.0 h.3, more _ _ h.4, h.5, h.6)
+
+  pub got_more : (view : List ℕ → List Row) (ps : List (List ℕ)) → AllGot G view ps → AllGot H view ps
+  got_more view [] h = tt
+  got_more view (p ∷ ps) h = ((h.0.0, more p h.0.0 h.0.1, h.0.2), got_more view ps h.1)
+
+  pub cleared_more : (judge : Commit → Option FileClash) (k : ℕ) → Cleared G judge k → Cleared H judge k
+  cleared_more judge k h = (h.0, more _ _ h.1, h.2)
+
+pub knows_more : (level : Level) (tag : Tag) (op : Operation) (start read : ℕ) (s : Snapshot) (view : List ℕ → List Row) (G S H T : List ℕ → List ℕ → Type 0) (version : ℕ)
+    → ((n b : List ℕ) → G n b → H n b) → ((n b : List ℕ) → S n b → T n b)
+    → Knows level tag op start read s view G S version → Knows level tag op start read s view H T version
+knows_more level tag op start read s view G S H T version more stored k = record {
+  below = k.below;
+  loaded = loaded_more G H more (suc read) s k.loaded;
+  files = got_more G H more view _ k.files;
+  stored = (k.stored.0, stored _ _ k.stored.1, k.stored.2);
+  previous = (k.previous.0, more _ _ k.previous.1);
+  clear = λ n from to. cleared_more G H more _ n (k.clear n from to);
+}

@@ -1,0 +1,120 @@
+-- What a statement's entries say of the entries before them. Entries are listed the newest first here.
+use Rattle.std.proofs.Common.{◌≡◌, ◌⊎◌, ℕ, suc, ◌≤◌, ◌<◌, ◌^◌, List, [], ◌∷◌}
+use Rattle.std.specs.Prelude.{Option, Some, None}
+use Rattle.edge_api.specs.declared.call.Tag.{Tag}
+use Rattle.edge_api.specs.declared.call.Call.{Call}
+use Rattle.edge_api.specs.declared.call.Call.TheVariants.{Get, PutNew, Put as Replace, List as ListNames, Delete, Now, Wait}
+use Rattle.edge_api.specs.declared.call.Answer.{Answer}
+use Rattle.edge_api.specs.declared.call.Answer.TheVariants.{Taken}
+use Rattle.op_types.specs.declared.statement.Statement.{Statement}
+use Rattle.op_types.specs.declared.statement.TableSpec.{TableSpec}
+use Rattle.op_types.specs.declared.statement.Statement.TheVariants.{Table}
+use Rattle.op_types.specs.declared.reply.Reply.{Reply}
+use Rattle.op_types.specs.declared.reply.Reply.TheVariants.{Created, Committed, Rows, Killed, Refused}
+use Rattle.table_rules.specs.Names.{commit_text, data_text}
+use Rattle.line_texts.specs.Texts.{text_of_columns}
+use Rattle.snapshot_replay.specs.Table.{Add, Commit, Snapshot, paths_of}
+use Rattle.call_phases.specs.Phases.{Entries}
+use Rattle.txn_machine.specs.Texts.{read_commit, read_file}
+use Rattle.txn_machine.specs.Answered.{names_of}
+use Rattle.table_laws.specs.Bags.{Row}
+use Rattle.table_laws.specs.Operations.{Operation, operation_of, scope_of, got_files, removed_files}
+use Rattle.table_laws.specs.Effects.{may_match, new_rows, effect_of}
+use Rattle.table_laws.specs.Conflicts.{Level, FileClash, first_clash}
+use Rattle.table_laws.specs.Runs.{or_first, listed_by, told_by, GotIn, StoredIn, LoadedTo}
+
+-- a statement's session or its own entries got it or stored it
+abbrev pub Known : (List ℕ → List ℕ → Type 0) → Entries → List ℕ → List ℕ → Type 0
+Known K past name body = K name body ⊎ GotIn past name body
+
+abbrev pub PutIn : Entries → List ℕ → List ℕ → Answer → Type 0
+PutIn [] name body answer = ⊥
+PutIn (e ∷ past) name body answer = ((e.call ≡ PutNew name body) × (e.answer ≡ answer)) ⊎ PutIn past name body answer
+
+-- nothing was put so far
+abbrev pub NoPut : Entries → Type 0
+NoPut past = (name body : List ℕ) (answer : Answer) → PutIn past name body answer → ⊥
+
+-- a commit's put was lost: the name was taken, or other bytes were read there later
+abbrev pub IsLost : Entries → List ℕ → List ℕ → Answer → Type 0
+IsLost past name body answer = (answer ≡ Taken) ⊎ ((other : List ℕ) × GotIn past name other × (other ≡ body → ⊥))
+
+abbrev pub AllLost : Entries → Type 0
+AllLost past = (v : ℕ) (body : List ℕ) (answer : Answer) → PutIn past (commit_text v) body answer → IsLost past (commit_text v) body answer
+
+-- what the entries give first
+abbrev pub first_past : (Call → Answer → Option ℕ) → Entries → Option ℕ
+first_past by [] = None
+first_past by (e ∷ past) = or_first (first_past by past) (by e.call e.answer)
+
+abbrev pub judge_of : Level → Operation → (List ℕ → List Row) → List Add → Commit → Option FileClash
+judge_of level op view fs t = first_clash level op (λ stats. may_match (scope_of op) stats) (paths_of (got_files may_match op fs)) (paths_of (removed_files view may_match op fs)) t
+
+-- by what is known under a name: of entries, what was got; of a history, what was put
+module _ (G : List ℕ → List ℕ → Type 0) where
+  -- the rows under each of these paths are those of a body that is known
+  abbrev pub AllGot : (List ℕ → List Row) → List (List ℕ) → Type 0
+  AllGot view [] = Unit {0}
+  AllGot view (p ∷ ps) = ((body : List ℕ) × G p body × (read_file body ≡ Some (view p))) × AllGot view ps
+
+  -- the commit of version k + 1 is known, and doesn't clash as far as it can be read
+  abbrev pub Cleared : (Commit → Option FileClash) → ℕ → Type 0
+  Cleared judge k = (text : List ℕ) × G (commit_text (suc k)) text × ((t : Commit) → read_commit (suc k) text ≡ Some t → judge t ≡ None)
+
+-- what a statement knows before it puts its commit at version + 1
+pub record Knows (level : Level) (tag : Tag) (op : Operation) (start read : ℕ) (s : Snapshot) (view : List ℕ → List Row) (G S : List ℕ → List ℕ → Type 0) (version : ℕ) : Type 0 where
+  pub below : read ≤ version
+  pub loaded : LoadedTo G (suc read) s
+  pub files : AllGot G view (paths_of (got_files may_match op s.files))
+  pub stored : (body : List ℕ) × S (data_text tag start 0) body × (read_file body ≡ Some (new_rows op view s.files))
+  pub previous : (text : List ℕ) × G (commit_text version) text
+  pub clear : (k : ℕ) → read ≤ k → k < version → Cleared G (judge_of level op view s.files) k
+
+-- what a reply claims of all entries of its statement
+abbrev pub ClaimOf : (List ℕ → List ℕ → Type 0) → Tag → Statement → Entries → Reply → Type 0
+ClaimOf K tag statement past Created = Unit {0}
+ClaimOf K tag statement past (Committed version read attempts checkpoint) = Unit {0}
+ClaimOf K tag statement past (Rows version rows files_read files_live) = Unit {0}
+ClaimOf K tag statement past Killed = Unit {0}
+ClaimOf K tag statement past (Refused r) = Unit {0}
+
+abbrev pub Claim : (List ℕ → List ℕ → Type 0) → Tag → Statement → Option Reply → Entries → Type 0
+Claim K tag statement None past = Unit {0}
+Claim K tag statement (Some reply) past = ClaimOf K tag statement past reply
+
+-- a put of a statement's commit
+pub record IsCommitOf (level : Level) (K : List ℕ → List ℕ → Type 0) (tag : Tag) (statement : Statement) (past : Entries) (name body : List ℕ) : Type 0 where
+  pub version : ℕ
+  pub is : name ≡ commit_text (suc version)
+  pub small : suc version < 2 ^ 64
+  pub op : Operation
+  pub is_op : operation_of statement ≡ Some op
+  pub start : ℕ
+  pub read : ℕ
+  pub s : Snapshot
+  pub view : List ℕ → List Row
+  pub says : read_commit (suc version) body ≡ Some (effect_of tag start op view s.files)
+  pub started : first_past told_by past ≡ Some start
+  pub listed : first_past listed_by past ≡ Some read
+  pub knows : Knows level tag op start read s view (Known K past) (StoredIn past) version
+  pub lost : AllLost past
+
+-- a statement's data file, the commit that makes a table, or another commit
+pub data MayPut (level : Level) (K : List ℕ → List ℕ → Type 0) (tag : Tag) (statement : Statement) (past : Entries) (name body : List ℕ) : Type 0 where
+  IsFile : (start : ℕ) → name ≡ data_text tag start 0 → NoPut past → MayPut level K tag statement past name body
+  IsTable : (spec : TableSpec) → statement ≡ Table spec → name ≡ commit_text 0 → body ≡ text_of_columns (names_of spec.columns) → MayPut level K tag statement past name body
+  IsCommit : IsCommitOf level K tag statement past name body → MayPut level K tag statement past name body
+
+abbrev pub LawfulBy : Level → (List ℕ → List ℕ → Type 0) → Tag → Statement → Entries → Call → Type 0
+LawfulBy level K tag statement past (PutNew name body) = MayPut level K tag statement past name body
+LawfulBy level K tag statement past (Get name) = Unit {0}
+LawfulBy level K tag statement past (Replace name body) = ⊥
+LawfulBy level K tag statement past (ListNames prefix) = Unit {0}
+LawfulBy level K tag statement past (Delete name) = ⊥
+LawfulBy level K tag statement past Now = Unit {0}
+LawfulBy level K tag statement past (Wait time) = Unit {0}
+
+-- each of the entries to come is lawful after those before it, and at the end the reply's claim holds
+abbrev pub AllLawful : Level → (List ℕ → List ℕ → Type 0) → Tag → Statement → Option Reply → Entries → Entries → Type 0
+AllLawful level K tag statement reply past [] = Claim K tag statement reply past
+AllLawful level K tag statement reply past (e ∷ es) = LawfulBy level K tag statement past e.call × AllLawful level K tag statement reply (e ∷ past) es

@@ -1,0 +1,15 @@
+pub mod Bags
+pub mod Files
+pub mod Live
+pub mod Winners
+pub mod Lawful
+pub mod Known
+pub mod Phases
+pub mod Paths
+pub mod Texts
+pub mod Statements
+pub mod Names
+pub mod Puts
+pub mod Journals
+pub mod Effects
+pub mod Serial

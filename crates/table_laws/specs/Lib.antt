@@ -1,0 +1,9 @@
+pub mod Bags
+pub mod Operations
+pub mod Files
+pub mod Effects
+pub mod Conflicts
+pub mod Serial
+pub mod History
+pub mod Runs
+pub mod Laws
