@@ -70,7 +70,6 @@ call_of (stage.Data d) = Some (PutNew d.path d.body)
 call_of (stage.Attempting a) = attempts.call_of a.attempts
 call_of (stage.Done r) = None
 
-
 -- an answered call leads from old to new
 abbrev pub Follows : Plan → Stage → Call → Answer → Stage → Type 0
 Follows p old call answer new = (es : Entries) (reply : Option Reply) → Rest p new es reply → Rest p old (record { tag = p.tag; call = call; answer = answer } ∷ es) reply

@@ -17,15 +17,17 @@ ghost use Rattle.committer.specs.Machine as attempts;
 ghost use Rattle.committer.specs.Machine.{IsReady};
 ghost use Rattle.txn_machine.specs.Machine.{reply_after, landed_after, AtAttempting, FedTo, EndsOpen, Rest, Follows, call_of, left_of, ahead_of, or_no_memory, first_get};
 
+use crate::CommitJudge;
 use crate::listing::newest_version;
 use crate::stage::{Ahead, Attempting, DataPut, Files, Listing, Loading, Plan, Stage, Start};
-use crate::texts::{apply_commit, rows_of_file, Unread};
-use crate::CommitJudge;
+use crate::texts::{Unread, apply_commit, rows_of_file};
 use committer::{AttemptFault, Attempts, Landed};
 use edge_api::{Answer, Body, Call, CallKind, Called, Fed, Listed, Name};
 use line_texts::{write_add, write_columns, write_rows};
-use op_types::{CheckpointOutcome, Clash, Feature, ObjectFault, Refusal, Reply, Statement, TableSpec};
-use row_base::{cmp_rows, Column, NoMemory, Row, Rows, ScannedFile, Text};
+use op_types::{
+    CheckpointOutcome, Clash, Feature, ObjectFault, Refusal, Reply, Statement, TableSpec,
+};
+use row_base::{Column, NoMemory, Row, Rows, ScannedFile, Text, cmp_rows};
 use snapshot_replay::State;
 use std::alloc::{AllocError, Global};
 use std::collections::VecDeque;

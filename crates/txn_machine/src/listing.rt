@@ -6,7 +6,7 @@ ghost use Rattle.txn_machine.specs.Listing.{Marks, mark_at};
 
 use edge_api::{Listed, Name};
 use std::alloc::{AllocError, Global};
-use table_rules::{read_log_name, LogName};
+use table_rules::{LogName, read_log_name};
 
 /// The version whose commit has the name.
 fn commit_version(name: &Name) -> Option<u64>

@@ -18,15 +18,17 @@ ghost use Rattle.committer.specs.Machine as attempts;
 ghost use Rattle.committer.specs.Machine.{IsReady};
 ghost use Rattle.txn_machine.specs.Machine.{reply_after, landed_after, AtAttempting, FedTo, Rest, Follows, call_of, left_of, ahead_of, or_no_memory, first_get};
 
+use crate::CommitJudge;
 use crate::listing::{missing_up_to, newest_version};
 use crate::stage::{Ahead, Attempting, DataPut, Files, Listing, Loading, Plan, Stage, Start};
-use crate::texts::{apply_commit, rows_of_file, Unread};
-use crate::CommitJudge;
+use crate::texts::{Unread, apply_commit, rows_of_file};
 use committer::{AttemptFault, Attempts, Landed};
 use edge_api::{Answer, Body, Call, CallKind, Called, Fed, Listed, Name};
 use line_texts::{write_add, write_columns, write_rows};
-use op_types::{CheckpointOutcome, Clash, Feature, ObjectFault, Refusal, Reply, Statement, TableSpec};
-use row_base::{cmp_rows, row_order_is_total, Column, NoMemory, Row, Rows, ScannedFile, Text};
+use op_types::{
+    CheckpointOutcome, Clash, Feature, ObjectFault, Refusal, Reply, Statement, TableSpec,
+};
+use row_base::{Column, NoMemory, Row, Rows, ScannedFile, Text, cmp_rows, row_order_is_total};
 use snapshot_replay::State;
 use std::alloc::{AllocError, Global};
 use std::collections::VecDeque;
@@ -168,12 +170,7 @@ fn make_loading(
 }
 
 /// The put of a data file with its call. The error is want of memory.
-fn make_put(
-    start: u64,
-    read: u64,
-    path: Name,
-    body: Body,
-) -> Result<(DataPut, Call), AllocError>
+fn make_put(start: u64, read: u64, path: Name, body: Body) -> Result<(DataPut, Call), AllocError>
     requires { read < 2 ^ 20 }
     ensures start { IfOk result (λ x. x.0.start ≡ start) }
     ensures read { IfOk result (λ x. x.0.read ≡ read) }
@@ -208,7 +205,15 @@ impl Plan {
     }
 
     /// The commit of a version is got, and so many after it.
-    fn gets(self, statement: Statement, start: u64, read: u64, at: u64, left: u64, state: State) -> Ahead
+    fn gets(
+        self,
+        statement: Statement,
+        start: u64,
+        read: u64,
+        at: u64,
+        left: u64,
+        state: State,
+    ) -> Ahead
         requires sum { at + left ≡ read }
         requires bound { read < 2 ^ 20 }
         ensures ready { result.call ≡ call_of result.stage }

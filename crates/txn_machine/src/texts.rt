@@ -4,7 +4,7 @@ ghost use Rattle.txn_machine.specs.Texts.{read_commit, commit_fault, read_file, 
 ghost use Rattle.txn_machine.specs.Reading.{Extends, IsUnread, unread_by};
 
 use edge_api::Body;
-use line_texts::{read_add, read_columns, read_rows, TextFault};
+use line_texts::{TextFault, read_add, read_columns, read_rows};
 use op_types::{LogFaultKind, ObjectFault};
 use row_base::Rows;
 use snapshot_replay::State;

@@ -14,6 +14,8 @@ returns-in-Ok-clause-follows c es reply h =
     let g = c.commit_got.ensures.follows es reply h in
     let new = c.apply_commit.new.state in
     let a : Extends (read_commit load.at c.in-Body.text) load.state new = search rules in
-    let is : c.args.answer ≡ Body c.in-Body.text = search rules in
-    (refl, on_body c.args.answer c.in-Body.text _ _ _ is
-        (load_follows (read_commit load.at c.in-Body.text) load.state new _ _ (λ s. AtLoad reply load.left (load.at + 1) s (AfterLoad c.args.self.tag c.args.self.limit load.statement load.start load.read reply) es) a g))
+    let is : c.args.answer ≡ Body c.in-Body.text = search rules in (
+      refl,
+      on_body c.args.answer c.in-Body.text _ _ _ is
+          (load_follows (read_commit load.at c.in-Body.text) load.state new _ _ (λ s. AtLoad reply load.left (load.at + 1) s (AfterLoad c.args.self.tag c.args.self.limit load.statement load.start load.read reply) es) a g),
+    )
