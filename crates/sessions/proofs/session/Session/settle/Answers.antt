@@ -1,0 +1,37 @@
+use Rattle.std.proofs.Common.{rules, ◌≡◌, ◌≤◌, ◌+◌, ◌*◌, ℕ, length, Option, Some, None, sym, ◌∙◌, ap, subst, arith}
+use Rattle.std.specs.Prelude.{vec_capacity}
+use Rattle.txn_machine.specs.declared.txn.Txn.{Txn}
+use Rattle.txn_machine.specs.Machine.{left_of}
+use Rattle.sessions.specs.Session.{later_plans, RestBy, count_now, left_now}
+use Rattle.sessions.proofs.Sessions.{begun_left}
+use Rattle.sessions.proofs.session.Session.settle.Goals as goal
+
+pub turns-preserved : goal.turns-preserved
+turns-preserved c =
+    let i = c.turns.invariant in
+    let e = c.turn.ensures in
+    let new = c.turn.new.self in
+    let is : c.turn.result ≡ Some c.in-Some.next = search rules in
+    let most : left_now c.turn.result ≤ count_now c.turn.result * (3 * c.args.self.now.limit + 2097201) = subst (λ (n : ℕ). left_now c.turn.result ≤ count_now c.turn.result * (3 * n + 2097201)) i.limit e.left in
+    let whole = begun_left (length new.later.items) (count_now c.turn.result) (length c.turns.self.later.items) (3 * c.args.self.now.limit + 2097201) (left_now c.turn.result) (left_of c.turns.txn.plan c.turns.txn.stage) most e.fewer in
+    let now : left_now c.turn.result ≡ left_of c.in-Some.next.plan c.in-Some.next.stage = ap left_now is in
+    record {
+      ready = search rules;
+      tag = search rules;
+      actor = e.actor ∙ i.actor;
+      limit = e.limit ∙ i.limit;
+      kill = e.kill ∙ i.kill;
+      current = e.current ∙ i.current;
+      room = subst (λ (n : Option Txn). length new.replies.items + count_now n + length new.later.items ≤ vec_capacity new.replies) is e.room;
+      numbers = e.numbers;
+      left = omega (arith, whole, i.left, now);
+      turns = λ killed es all h. i.turns killed es all (e.turns killed es all (subst (λ (n : Option Txn). RestBy killed new.replies.items n (later_plans new) es all) (sym is) h));
+    }
+
+pub returns-in-None-clause-settles : goal.returns-in-None-clause-settles
+returns-in-None-clause-settles c killed es all h =
+    let i = c.turns.invariant in
+    let e = c.turn.ensures in
+    let new = c.turn.new.self in
+    let none : c.turn.result ≡ None = search rules in
+    i.turns killed es all (e.turns killed es all (subst (λ (n : Option Txn). RestBy killed new.replies.items n (later_plans new) es all) (e.current ∙ i.current ∙ sym none) h))

@@ -1,0 +1,25 @@
+use Rattle.std.proofs.Common.{◌≡◌, ◌≤◌, ◌<◌, ◌+◌, ◌*◌, Bool, List, length}
+use Rattle.std.specs.Prelude.{Some, None, vec_capacity}
+use Rattle.op_types.specs.declared.reply.Reply.{Reply}
+use Rattle.call_phases.specs.Phases.{Entries}
+use Rattle.txn_machine.specs.Machine.{left_of}
+use Rattle.txn_machine.specs.Txn as txn
+use Rattle.sessions.specs.Session.{RestBy, later_plans}
+use Rattle.sessions.proofs.session.Session.settle.Given as goal
+
+abbrev pub invariant-turns : goal.invariant-turns
+invariant-turns l = record {
+  ready : txn.IsReady l.txn;
+  tag : l.txn.plan.tag.actor ≡ l.initial.self.actor;
+  actor : l.self.actor ≡ l.initial.self.actor;
+  limit : l.self.limit ≡ l.initial.self.limit;
+  kill : l.self.kill ≡ l.initial.self.kill;
+  current : l.self.current ≡ None;
+  room : length l.self.replies.items + 1 + length l.self.later.items ≤ vec_capacity l.self.replies;
+  numbers : l.self.next + length l.self.later.items < 4294967296;
+  left : length l.self.later.items * (3 * l.initial.self.limit + 2097201) + left_of l.txn.plan l.txn.stage ≤ length l.initial.self.later.items * (3 * l.initial.self.limit + 2097201) + left_of l.initial.txn.plan l.initial.txn.stage;
+  turns : (killed : Bool) (es : Entries) (all : List Reply) → RestBy killed l.self.replies.items (Some l.txn) (later_plans l.self) es all → RestBy killed l.initial.self.replies.items (Some l.initial.txn) (later_plans l.initial.self) es all;
+}
+
+abbrev pub decreases-turns : goal.decreases-turns
+decreases-turns l = length l.self.later.items

@@ -1,0 +1,39 @@
+use Rattle.std.proofs.Common.{rules, ◌≡◌, ◌≤◌, ◌+◌, ◌*◌, length, Some, arith}
+use Rattle.txn_machine.specs.Machine.{left_of}
+use Rattle.sessions.specs.Session.{left}
+use Rattle.sessions.proofs.Sessions.{asked, event_goes, event_falls, has_calls}
+use Rattle.sessions.proofs.session.SessionActor.feed.Goals as goal
+
+pub settle-requires-clause-ready : goal.settle-requires-clause-ready
+settle-requires-clause-ready c =
+    let q = c.requires in
+    let is : c.args.self.now.current ≡ Some c.in-Some.txn = search rules in
+    let o = asked q.0 q.1 q.2 c.args.self.now c.in-Some.txn q.3 is in
+    (c.feed.ensures.fed o.before q.1 q.2 o.asks).2
+
+pub count-requires-clause-calls : goal.count-requires-clause-calls
+count-requires-clause-calls c =
+    let q = c.requires in
+    let calls = has_calls q.0 q.1 q.2 c.args.self.now q.3 in
+    search rules
+
+pub returns-in-Some-clause-fed : goal.returns-in-Some-clause-fed
+returns-in-Some-clause-fed c old tag call asks =
+    let self = c.args.self.now in
+    let new = c.settle.new.self in
+    let t = c.feed.new.self in
+    let is : self.current ≡ Some c.in-Some.txn = search rules in
+    let o = asked old tag call self c.in-Some.txn asks is in
+    let f = c.feed.ensures.fed o.before tag call o.asks in
+    let most : left c.count.new.self ≤ length self.later.items * (3 * self.limit + 2097201) + left_of t.plan t.stage = omega (arith, c.count.ensures.falls, c.settle.ensures.falls) in (
+      λ es all h. event_goes old tag call self new o.before t c.args.answer _ es all asks o.is f.0 c.settle.ensures.kill c.is_answer-heard.ensures (λ killed rest. c.settle.ensures.settles killed es all rest) (c.count.ensures.remains es all h),
+      event_falls old tag call self c.count.new.self o.before t asks o.is f.1 most,
+      c.count.ensures.ready,
+    )
+
+pub feed-requires : goal.feed-requires
+feed-requires c =
+    let q = c.requires in
+    let is : c.args.self.now.current ≡ Some c.in-Some.txn = search rules in
+    let o = asked q.0 q.1 q.2 c.args.self.now c.in-Some.txn q.3 is in
+    (o.before, q.1, q.2, o.asks, q.4)

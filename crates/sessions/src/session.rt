@@ -1,0 +1,257 @@
+// Statements one after another, as an actor.
+ghost use Rattle.std.specs.Prelude.{◌≡◌, ◌<◌, ◌≤◌, ◌+◌, ◌*◌, ℕ, length, List, [], ◌∷◌, ◌++◌, Option, Some, None, Bool, if◌then◌else◌, IfOk, IfSome, vec_capacity};
+ghost use Rattle.call_phases.specs.Phases.{Entries};
+ghost use Rattle.op_types.specs.declared.reply.Reply.{Reply as AReply};
+ghost use Rattle.txn_machine.specs.Machine.{left_of};
+ghost use Rattle.txn_machine.specs.Txn as txn_specs;
+ghost use Rattle.sessions.specs.Session.{plans_from, later_plans, AnsweredTo, RestBy, Stops, Remains, RemainsAfter, HasCalls, count_of, Goes, IsLimit, IsReadyNow, count_now, IsSettled, IsReady, Asks, left_now, left, place_now, Begins};
+
+use edge_api::{Actor, Fed, Stage as Place, Step, Tag};
+use op_types::{Reply, Statement};
+use row_base::NoMemory;
+use std::alloc::Global;
+use std::collections::VecDeque;
+use txn_machine::Txn;
+
+/// Statements one after another under one actor's number. It is an actor itself, and keeps the reply of each statement.
+#[derive(Drop)]
+pub struct Session {
+    alloc: Global,
+    actor: u16,
+    limit: u32,
+    /// The number of the first of the later statements.
+    next: u32,
+    later: VecDeque<Statement>,
+    current: Option<Txn>,
+    replies: Vec<Reply>,
+    /// After how many more answers it is killed.
+    kill: Option<u64>,
+}
+
+/// Begins the first of the later statements, if there is one.
+fn begin(
+    alloc: Global,
+    actor: u16,
+    limit: u32,
+    next: &mut u32,
+    later: &mut VecDeque<Statement>,
+) -> Option<Txn>
+    requires limit { IsLimit limit }
+    requires numbers { next.old + length later.old.items < 4294967296 }
+    ensures begins { Begins (plans_from actor limit next.old later.old.items) (plans_from actor limit next.new later.new.items) result }
+    ensures fewer { count_now result + length later.new.items ≡ length later.old.items }
+    ensures numbers { next.new + length later.new.items < 4294967296 }
+    ensures ready { IfSome result txn_specs.IsReady }
+    ensures actor { IfSome result (λ t. t.plan.tag.actor ≡ actor) }
+    ensures last { result ≡ None → later.new.items ≡ [] }
+    ensures left { left_now result ≤ count_now result * (3 * limit + 2097201) }
+{
+    let statement = later.pop_front()?;
+    let tag = Tag {
+        actor,
+        statement: *next,
+    };
+    *next += 1;
+    Some(Txn::new(alloc, tag, statement, limit))
+}
+
+impl Session {
+    /// A session of so many statements, at most 4,096, numbered from 1 on, with room for the reply of each. The limit
+    /// is that of a statement's attempts. It is killed after so many answers, if it is to be. The error is want of memory.
+    pub fn new(
+        alloc: Global,
+        actor: u16,
+        statements: Vec<Statement>,
+        limit: u32,
+        kill: Option<u64>,
+    ) -> Result<Session, NoMemory>
+        requires limit { IsLimit limit }
+        requires few { length statements.items ≤ 4096 }
+        ensures ready { IfOk result IsReady }
+        ensures actor { IfOk result (λ s. s.actor ≡ actor) }
+        ensures starts { IfOk result (λ s. (es : Entries) (all : List AReply) → Remains s es all → AnsweredTo kill (plans_from actor limit 1 statements.items) es all) }
+    {
+        let replies = Vec::with_capacity(alloc, statements.len())?;
+        let mut later = VecDeque::from_vec(statements);
+        let mut next = 1;
+        let first = begin(alloc, actor, limit, &mut next, &mut later);
+        let mut session = Session {
+            alloc,
+            actor,
+            limit,
+            next,
+            later,
+            current: None,
+            replies,
+            kill,
+        };
+        session.start(first);
+        Ok(session)
+    }
+
+    /// Sets out with the first statement, if there is one.
+    fn start(&mut self, first: Option<Txn>)
+        requires ready { IfSome first txn_specs.IsReady }
+        requires actor { IfSome first (λ t. t.plan.tag.actor ≡ self.old.actor) }
+        requires last { first ≡ None → self.old.later.items ≡ [] }
+        requires limit { IsLimit self.old.limit }
+        requires none { self.old.current ≡ None }
+        requires room { length self.old.replies.items + count_now first + length self.old.later.items ≤ vec_capacity self.old.replies }
+        requires numbers { self.old.next + length self.old.later.items < 4294967296 }
+        ensures ready { IsReady self.new }
+        ensures actor { self.new.actor ≡ self.old.actor }
+        ensures starts { (es : Entries) (all : List AReply) → Remains self.new es all → (killed : Bool) × Stops self.old.kill (length es) killed × RestBy killed self.old.replies.items first (later_plans self.old) es all }
+    {
+        if let Some(txn) = first {
+            self.settle(txn);
+            self.check();
+        }
+    }
+
+    /// The replies so far, one for each statement in order.
+    pub fn replies(&self) -> &[Reply]
+        ensures { result.now ≡ self.now.replies.items }
+    {
+        self.replies.as_slice()
+    }
+
+    /// The replies, one for each statement in order.
+    pub fn into_replies(self) -> Vec<Reply>
+        ensures { result.items ≡ self.replies.items }
+    {
+        self.replies
+    }
+
+    /// Ends the session where no more calls may be answered.
+    fn check(&mut self)
+        requires { IsSettled self.old }
+        ensures ready { IsReady self.new }
+        ensures actor { self.new.actor ≡ self.old.actor }
+        ensures remains { (es : Entries) (all : List AReply) → Remains self.new es all → Remains self.old es all }
+        ensures falls { left self.new ≤ left self.old }
+    {
+        if let Some(0) = self.kill {
+            if self.current.take().is_some() {
+                self.replies.push(Reply::Killed).unwrap();
+                self.later.clear();
+            }
+        }
+    }
+
+    /// Counts an answer.
+    fn count(&mut self, heard: bool)
+        requires settled { IsSettled self.old }
+        requires calls { HasCalls self.old.kill }
+        ensures ready { IsReady self.new }
+        ensures actor { self.new.actor ≡ self.old.actor }
+        ensures remains { (es : Entries) (all : List AReply) → Remains self.new es all → RemainsAfter (if heard then 1 else 0) self.old es all }
+        ensures falls { left self.new ≤ left self.old }
+    {
+        if heard {
+            if let Some(left) = self.kill {
+                self.kill = Some(left - 1);
+                self.check();
+            }
+        }
+    }
+
+    /// Keeps the reply of a statement that is done, and begins the next.
+    fn turn(&mut self, done: Txn) -> Option<Txn>
+        requires ready { txn_specs.IsReady done }
+        requires done { done.pending ≡ None }
+        requires limit { IsLimit self.old.limit }
+        requires room { length self.old.replies.items + 1 + length self.old.later.items ≤ vec_capacity self.old.replies }
+        requires numbers { self.old.next + length self.old.later.items < 4294967296 }
+        ensures ready { IfSome result txn_specs.IsReady }
+        ensures tag { IfSome result (λ t. t.plan.tag.actor ≡ self.old.actor) }
+        ensures actor { self.new.actor ≡ self.old.actor }
+        ensures limit { self.new.limit ≡ self.old.limit }
+        ensures kill { self.new.kill ≡ self.old.kill }
+        ensures current { self.new.current ≡ self.old.current }
+        ensures room { length self.new.replies.items + count_now result + length self.new.later.items ≤ vec_capacity self.new.replies }
+        ensures numbers { self.new.next + length self.new.later.items < 4294967296 }
+        ensures fewer { count_now result + length self.new.later.items ≡ length self.old.later.items }
+        ensures last { result ≡ None → self.new.later.items ≡ [] }
+        ensures left { left_now result ≤ count_now result * (3 * self.old.limit + 2097201) }
+        ensures turns { (killed : Bool) (es : Entries) (all : List AReply) → RestBy killed self.new.replies.items result (later_plans self.new) es all → RestBy killed self.old.replies.items (Some done) (later_plans self.old) es all }
+    {
+        self.replies.push(done.finish().reply).unwrap();
+        begin(
+            self.alloc,
+            self.actor,
+            self.limit,
+            &mut self.next,
+            &mut self.later,
+        )
+    }
+
+    /// Goes on with a statement, or where it has its reply with the next.
+    fn settle(&mut self, txn: Txn)
+        requires ready { txn_specs.IsReady txn }
+        requires actor { txn.plan.tag.actor ≡ self.old.actor }
+        requires limit { IsLimit self.old.limit }
+        requires none { self.old.current ≡ None }
+        requires room { length self.old.replies.items + 1 + length self.old.later.items ≤ vec_capacity self.old.replies }
+        requires numbers { self.old.next + length self.old.later.items < 4294967296 }
+        ensures settled { IsSettled self.new }
+        ensures actor { self.new.actor ≡ self.old.actor }
+        ensures kill { self.new.kill ≡ self.old.kill }
+        ensures settles { (killed : Bool) (es : Entries) (all : List AReply) → RestBy killed self.new.replies.items self.new.current (later_plans self.new) es all → RestBy killed self.old.replies.items (Some txn) (later_plans self.old) es all }
+        ensures falls { left self.new ≤ length self.old.later.items * (3 * self.old.limit + 2097201) + left_of txn.plan txn.stage }
+    {
+        let mut txn = txn;
+        'turns: while txn.pending.is_none() {
+            match self.turn(txn) {
+                Some(next) => txn = next,
+                None => return,
+            }
+        }
+        self.current = Some(txn);
+    }
+}
+
+fn is_answer(fed: &Fed) -> bool
+    ensures { (if result then 1 else 0) ≡ count_of fed.now }
+{
+    match fed {
+        Fed::Answer(_) => true,
+        Fed::NoMemory => false,
+    }
+}
+
+impl Actor for Session {
+    ghost ready = { IsReady };
+
+    ghost left = { left };
+
+    ghost number = { λ s. s.actor };
+
+    ghost stands = { λ s. place_now s.current };
+
+    ghost goes = { Goes };
+
+    ghost asks = { Asks };
+
+    fn stage(&self) -> Place {
+        match &self.current {
+            Some(txn) => txn.stage(),
+            None => Place::Done,
+        }
+    }
+
+    fn next(&mut self) -> Step {
+        match &mut self.current {
+            Some(txn) => txn.next(),
+            None => Step::Done,
+        }
+    }
+
+    fn feed(&mut self, answer: Fed) {
+        if let Some(mut txn) = self.current.take() {
+            let heard = is_answer(&answer);
+            txn.feed(answer);
+            self.settle(txn);
+            self.count(heard);
+        }
+    }
+}
