@@ -1,0 +1,176 @@
+-- A run of sessions is a run of a script, for which the laws of a table hold.
+use Rattle.std.proofs.Common.{◌≡◌, ◌≢◌, ◌⊎◌, inl, inr, ℕ, zero, suc, ◌+◌, ◌<◌, ◌≤◌, ◌^◌, ◌==◌, ◌&&◌, Bool, true, false, List, [], ◌∷◌, ◌++◌, length, get_or, refl, sym, ◌∙◌, ap, subst, arith}
+use Rattle.std.proofs.lemmas.List.{append-nil}
+use Rattle.std.proofs.lemmas.Option.{slice_get_within}
+use Rattle.std.specs.Prelude.{Option, Some, None, All, slice_get, option_and_then, if◌then◌else◌}
+use Rattle.edge_api.specs.declared.call.JournalEntry.{JournalEntry}
+use Rattle.edge_api.specs.declared.call.Tag.{Tag}
+use Rattle.edge_api.specs.Journal.{Moment, IsLegal, entries_of}
+use Rattle.edge_api.specs.World.{Grows}
+use Rattle.row_base.specs.declared.row.Datum.{Datum}
+use Rattle.op_types.specs.declared.statement.Statement.{Statement}
+use Rattle.op_types.specs.declared.statement.Statement.TheVariants.{Table, Insert, Select}
+use Rattle.op_types.specs.declared.statement.TableSpec.{TableSpec}
+use Rattle.op_types.specs.declared.reply.Reply.{Reply}
+use Rattle.table_rules.specs.Told.{IsTag}
+use Rattle.line_texts.specs.Texts.{text_of_rows, rows_of_text}
+use Rattle.line_texts.specs.Laws.{RowsReadBack}
+use Rattle.call_phases.specs.Phases.{Entries}
+use Rattle.txn_machine.specs.Answered.{Answered}
+use Rattle.actor_core.specs.Entries.{of_actor, same_tag, own}
+use Rattle.actor_core.proofs.Lists.{item_of, some_same, not_equal}
+use Rattle.actor_core.proofs.Owners.{own-append, own_among, same_tag-refl}
+use Rattle.actor_core.proofs.Pieces.{Told}
+use Rattle.sessions.specs.Session.{AllTagged, AllAnswered, AnsweredTo, Stops, plans_from}
+use Rattle.table_laws.specs.Runs as laws
+use Rattle.table_laws.specs.Laws.{EachVersionIsSerial, EachStatementCommitsOnce, FirstVersionIsEmpty}
+use Rattle.session_runs.specs.Run.{Program, IsPlain, AllReplied, IsLawful, IsSerial, Runs, scripts_of, counted, statement_of}
+use Rattle.session_runs.proofs.Replies.{all_at}
+
+-- tags of one actor
+tag_is : (t : Tag) (a s : ℕ) → t.actor ≡ a → t.statement ≡ s → t ≡ record { actor = a; statement = s }
+tag_is t a s e f = ap (λ (n : ℕ). record { actor = n; statement = t.statement }) e ∙ ap (λ (n : ℕ). record { actor = a; statement = n }) f
+
+and_false : (b : Bool) → b && false ≡ false
+and_false true = refl
+and_false false = refl
+
+other_tag : (t u : Tag) → t.statement ≢ u.statement → same_tag t u ≡ false
+other_tag t u differ = ap (λ (c : Bool). (t.actor == u.actor) && c) (not_equal t.statement u.statement differ) ∙ and_false (t.actor == u.actor)
+
+own_same : (t u : Tag) (es : Entries) → AllTagged u es → t ≡ u → own t es ≡ es
+own_same t u [] all is = refl
+own_same t u (e ∷ es) all is =
+    let here : same_tag t e.tag ≡ true = ap (λ (x : Tag). same_tag t x) (all.0 ∙ sym is) ∙ same_tag-refl t in
+    ap (λ (c : Bool). if c then e ∷ own t es else own t es) here ∙ ap (λ (l : Entries). e ∷ l) (own_same t u es all.1 is)
+
+own_other : (t u : Tag) (es : Entries) → AllTagged u es → t.statement ≢ u.statement → own t es ≡ []
+own_other t u [] all differ = refl
+own_other t u (e ∷ es) all differ =
+    let here : same_tag t e.tag ≡ false = ap (λ (x : Tag). same_tag t x) all.0 ∙ other_tag t u differ in
+    ap (λ (c : Bool). if c then e ∷ own t es else own t es) here ∙ own_other t u es all.1 differ
+
+-- a session that is not killed: a statement before these has no entries among theirs
+none_before : (actor limit k : ℕ) (sts : List Statement) (part : Entries) (rs : List Reply) → AllAnswered false (plans_from actor limit k sts) part rs → (t : Tag) → t.statement < k → own t part ≡ []
+none_before actor limit k [] part rs h t lt = ap (own t) h.0
+none_before actor limit k (st ∷ sts) part [] h t lt = absurd h
+none_before actor limit k (st ∷ sts) part (r ∷ rs) (inl x) t lt = absurd cc
+none_before actor limit k (st ∷ sts) part (r ∷ rs) (inr h) t lt =
+    let mine : own t h.0 ≡ [] = own_other t (record { actor = actor; statement = k }) h.0 h.3 (λ is. absurd (omega (arith, lt, is))) in
+    let rest : own t h.1 ≡ [] = none_before actor limit (k + 1) sts h.1 rs h.5 t (omega (arith, lt)) in
+    ap (own t) h.2 ∙ own-append t h.0 h.1 ∙ ap (λ (l : Entries). l ++ own t h.1) mine ∙ rest
+
+-- each statement is answered by the entries of its tag
+answered_at : (actor limit k : ℕ) (sts : List Statement) (part : Entries) (rs : List Reply) → AllAnswered false (plans_from actor limit k sts) part rs → (t : Tag) → t.actor ≡ actor → (j : ℕ) → t.statement ≡ k + j
+    → laws.IsAnsweredPart limit t None (slice_get sts j) (own t part) (slice_get rs j)
+answered_at actor limit k [] part rs h t is j at = ap (own t) h.0
+answered_at actor limit k (st ∷ sts) part [] h t is j at = absurd h
+answered_at actor limit k (st ∷ sts) part (r ∷ rs) (inl x) t is j at = absurd cc
+answered_at actor limit k (st ∷ sts) part (r ∷ rs) (inr h) t is zero at =
+    let here : t ≡ record { actor = actor; statement = k } = tag_is t actor k is (omega (arith, at)) in
+    let rest : own t h.1 ≡ [] = none_before actor limit (k + 1) sts h.1 rs h.5 t (omega (arith, at)) in
+    let mine : own t part ≡ h.0 =
+    ap (own t) h.2 ∙ own-append t h.0 h.1 ∙ ap (λ (l : Entries). l ++ own t h.1) (own_same t (record { actor = actor; statement = k }) h.0 h.3 here) ∙ ap (λ (l : Entries). h.0 ++ l) rest ∙ append-nil h.0 in
+    subst (λ (l : Entries). Answered t limit None st l (Some r)) (sym mine) (subst (λ (u : Tag). Answered u limit None st h.0 (Some r)) (sym here) h.4)
+answered_at actor limit k (st ∷ sts) part (r ∷ rs) (inr h) t is (suc j) at =
+    let first : own t h.0 ≡ [] = own_other t (record { actor = actor; statement = k }) h.0 h.3 (λ same. absurd (omega (arith, at, same))) in
+    let theirs : own t part ≡ own t h.1 = ap (own t) h.2 ∙ own-append t h.0 h.1 ∙ ap (λ (l : Entries). l ++ own t h.1) first in
+    subst (λ (l : Entries). laws.IsAnsweredPart limit t None (slice_get sts j) l (slice_get rs j)) (sym theirs) (answered_at actor limit (k + 1) sts h.1 rs h.5 t is j (omega (arith, at)))
+
+-- the reply of a tag
+abbrev replies_of : List (List Reply) → Tag → Option Reply
+replies_of replies tag = option_and_then (λ rs. counted rs tag.statement) (slice_get replies tag.actor)
+
+-- the two crates' lists of a statement's entries
+own_is : (t : Tag) (es : Entries) → laws.own t es ≡ own t es
+own_is t [] = refl
+own_is t (e ∷ es) = ap (λ (l : Entries). if same_tag t e.tag then e ∷ l else l) (own_is t es)
+
+counted_at : (actor limit : ℕ) (sts : List Statement) (part : Entries) (rs : List Reply) → AllAnswered false (plans_from actor limit 1 sts) part rs → (t : Tag) → t.actor ≡ actor → (n : ℕ) → t.statement ≡ n
+    → laws.IsAnsweredPart limit t None (counted sts n) (own t part) (counted rs n)
+counted_at actor limit sts part rs h t is zero at = none_before actor limit 1 sts part rs h t (omega (arith, at))
+counted_at actor limit sts part rs h t is (suc j) at = answered_at actor limit 1 sts part rs h t is j (omega (arith, at))
+
+not_killed : (limit actor : ℕ) (sts : List Statement) (part : Entries) (rs : List Reply) → AnsweredTo None (plans_from actor limit 1 sts) part rs → AllAnswered false (plans_from actor limit 1 sts) part rs
+not_killed limit actor sts part rs (true, stops, h) = absurd stops
+not_killed limit actor sts part rs (false, stops, h) = h
+
+module _ (limit : ℕ) (scripts : List (List Statement)) (part : Entries) (replies : List (List Reply)) (all : AllReplied limit scripts part replies) where
+  by_actor : (t : Tag) (o : Option (List Statement)) → slice_get scripts t.actor ≡ o → (g : Option (List Reply)) → slice_get replies t.actor ≡ g
+      → laws.IsAnsweredPart limit t None (option_and_then (λ sts. counted sts t.statement) o) (own t (of_actor t.actor part)) (option_and_then (λ rs. counted rs t.statement) g)
+  by_actor t None at g to = ap (own t) (all.none t.actor at)
+  by_actor t (Some sts) at None to =
+      let lt = slice_get_within scripts t.actor sts at in
+      let long = all.long in
+      let there = item_of replies t.actor (omega (arith, lt, long)) in
+      absurd (none_some there.0 (sym to ∙ there.1))
+    where
+      none_some : (x : List Reply) → None ≡ Some x → ⊥
+      none_some x e = cc
+  by_actor t (Some sts) at (Some rs) to = counted_at t.actor limit sts (of_actor t.actor part) rs (not_killed limit t.actor sts (of_actor t.actor part) rs (all.each t.actor sts rs at to)) t refl t.statement refl
+
+  pub each_answered : laws.IsAnswered limit (statement_of scripts) (λ t. None) (replies_of replies) part
+  each_answered t =
+      subst (λ (l : Entries). laws.IsAnsweredPart limit t None (statement_of scripts t) l (replies_of replies t)) (sym (own_is t part ∙ own_among t part))
+      (by_actor t (slice_get scripts t.actor) refl (slice_get replies t.actor) refl)
+
+-- where a tag's statement stands
+record Found (scripts : List (List Statement)) (t : Tag) (st : Statement) : Type 0 where
+  sts : List Statement
+  place : ℕ
+  at : slice_get scripts t.actor ≡ Some sts
+  is : t.statement ≡ suc place
+  there : slice_get sts place ≡ Some st
+
+found : (scripts : List (List Statement)) (t : Tag) (st : Statement) → statement_of scripts t ≡ Some st → Found scripts t st
+found scripts t st h = by (slice_get scripts t.actor) refl h
+  where
+    counts : (sts : List Statement) → slice_get scripts t.actor ≡ Some sts → (n : ℕ) → t.statement ≡ n → counted sts n ≡ Some st → Found scripts t st
+    counts sts at zero is e = cc
+    counts sts at (suc j) is e = record { sts = sts; place = j; at = at; is = is; there = e }
+
+    by : (o : Option (List Statement)) → slice_get scripts t.actor ≡ o → option_and_then (λ sts. counted sts t.statement) o ≡ Some st → Found scripts t st
+    by None at e = cc
+    by (Some sts) at e = counts sts at t.statement refl e
+
+few_of : (table : Statement) (sessions : List (List Statement)) (i : ℕ) (sts : List Statement) → All (λ s. length s ≤ 4096) sessions → slice_get ((table ∷ []) ∷ sessions) i ≡ Some sts → length sts ≤ 4096
+few_of table sessions zero sts few at = let same = ap (λ (l : List Statement). length l) (some_same (table ∷ []) sts at) in omega (arith, same)
+few_of table sessions (suc i) sts few at = all_at (λ s. length s ≤ 4096) sessions i sts few at
+
+plain_of : (spec : TableSpec) (sessions : List (List Statement)) (i j : ℕ) (sts : List Statement) (st : Statement) → All (λ s. All IsPlain s) sessions → slice_get ((Table spec ∷ []) ∷ sessions) i ≡ Some sts → slice_get sts j ≡ Some st → IsPlain st
+plain_of spec sessions zero j sts st plain at there = only j (subst (λ (l : List Statement). slice_get l j ≡ Some st) (sym (some_same (Table spec ∷ []) sts at)) there)
+  where
+    only : (j : ℕ) → slice_get (Table spec ∷ []) j ≡ Some st → IsPlain st
+    only zero e = subst IsPlain (some_same (Table spec) st e) tt
+    only (suc j) e = cc
+plain_of spec sessions (suc i) j sts st plain at there = all_at IsPlain sts j st (all_at (λ s. All IsPlain s) sessions i sts plain at) there
+
+grown_is : (before after : Told) (part journal : Entries) → before ≡ Some [] → after ≡ Some journal → Grows before part after → part ≡ journal
+grown_is None after part journal is now h = cc
+grown_is (Some old) after part journal is now h =
+    let none = some_same old [] is in
+    sym (ap (λ (l : Entries). l ++ part) none) ∙ some_same (old ++ part) journal (sym h ∙ now)
+
+pub is_serial : EachVersionIsSerial → EachStatementCommitsOnce → FirstVersionIsEmpty → RowsReadBack → (p : Program) (before after : Told) (replies : List (List Reply)) → p.limit ≤ 1000000 → length p.sessions ≤ 64
+    → All (λ s. length s ≤ 4096) p.sessions → Runs p before after replies → IsSerial p before after
+unfolding Runs IsSerial
+is_serial serial once empty back p before after replies small few short runs is_before plain journal is_after moments legal are =
+    let scripts = scripts_of p in
+    let part_is = grown_is before after runs.0 journal is_before is_after runs.1 in
+    let answered = subst (λ (l : Entries). laws.IsAnswered p.limit (statement_of scripts) (λ t. None) (replies_of replies) l) (part_is ∙ sym are) (each_answered p.limit scripts runs.0 replies runs.2) in
+    let tags : (t : Tag) (st : Statement) → statement_of scripts t ≡ Some st → IsTag t = λ t st h.
+    let f = found scripts t st h in
+    let actor = slice_get_within scripts t.actor f.sts f.at in
+    let place = slice_get_within f.sts f.place st f.there in
+    let most = few_of (Table p.table) p.sessions t.actor f.sts short f.at in
+    let is = f.is in
+    (omega (arith, actor, few), omega (arith, place, most, is)) in
+    let faithful : (t : Tag) (rows : List (List Datum)) → statement_of scripts t ≡ Some (Insert rows) → rows_of_text (text_of_rows rows) ≡ Some rows = λ t rows h.
+    let f = found scripts t (Insert rows) h in
+    back rows (plain_of p.table p.sessions t.actor f.place f.sts (Insert rows) plain f.at f.there) in
+    let run : laws.IsRun p.limit (statement_of scripts) (λ t. None) (replies_of replies) (entries_of moments) = record { answered = answered; kept = λ t. tt; limited = omega (arith, small); tags = tags; faithful = faithful } in
+    record {
+      serial = λ level. serial level p.limit (statement_of scripts) (λ t. None) (replies_of replies) moments legal run;
+      once = once p.limit (statement_of scripts) (λ t. None) (replies_of replies) moments legal run;
+      empty = empty moments;
+    }

@@ -1,0 +1,99 @@
+-- What a run of a script's sessions over a store says.
+use Rattle.std.specs.Prelude.{◌≡◌, ◌<◌, ◌+◌, ℕ, zero, suc, Bool, true, List, [], ◌∷◌, Option, Some, None, All, length, slice_get, option_and_then}
+use Rattle.std.specs.List.{list_all}
+use Rattle.edge_api.specs.declared.call.JournalEntry.{JournalEntry}
+use Rattle.edge_api.specs.declared.call.Tag.{Tag}
+use Rattle.edge_api.specs.Actor.{Moves}
+use Rattle.edge_api.specs.Journal.{Moment, IsLegal, entries_of}
+use Rattle.edge_api.specs.World.{Grows}
+use Rattle.row_base.specs.declared.row.Datum.{Datum}
+use Rattle.op_types.specs.declared.statement.Statement.{Statement}
+use Rattle.op_types.specs.declared.statement.Statement.TheVariants.{Table, Insert, Select}
+use Rattle.op_types.specs.declared.statement.TableSpec.{TableSpec}
+use Rattle.op_types.specs.declared.reply.Reply.{Reply}
+use Rattle.line_texts.specs.Texts.{is_long_row}
+use Rattle.actor_core.specs.declared.piece.Till.TheVariants.{End}
+use Rattle.actor_core.specs.declared.schedule.Item.{Item}
+use Rattle.actor_core.specs.Entries.{of_actor}
+use Rattle.actor_core.specs.Piece.{RunsPiece}
+use Rattle.actor_core.specs.Schedule.{FollowsSchedule}
+use Rattle.sessions.specs.declared.session.Session.{Session}
+use Rattle.sessions.specs.Session.{plans_from, AnsweredTo, Remains, IsReady, Goes, place_now}
+use Rattle.table_laws.specs.Conflicts.{Level}
+use Rattle.table_laws.specs.Laws.{VersionsAreSerial, CommitsOnce, FirstIsEmpty}
+
+-- what runs: the table that is made first, by actor 0, then the sessions' statements in the order of the items
+pub record Program : Type 0 where
+  pub table : TableSpec
+  pub sessions : List (List Statement)
+  pub limit : ℕ
+  pub items : List Item
+
+-- each inserted row is one or more numbers
+abbrev pub IsPlain : Statement → Type 0
+IsPlain (Table spec) = Unit {0}
+IsPlain (Insert rows) = list_all is_long_row rows ≡ true
+IsPlain Select = Unit {0}
+
+-- the statements of each actor, by its number: actor 0 makes the table, and the sessions are 1, 2, and so on
+abbrev pub scripts_of : Program → List (List Statement)
+scripts_of p = (Table p.table ∷ []) ∷ p.sessions
+
+-- one of a list, counted from 1
+abbrev pub counted : {A : Type 0} → List A → ℕ → Option A
+counted xs zero = None
+counted xs (suc k) = slice_get xs k
+
+-- the statement of a tag: that of its number, counted from 1, of its actor
+abbrev pub statement_of : List (List Statement) → Tag → Option Statement
+statement_of scripts tag = option_and_then (λ statements. counted statements tag.statement) (slice_get scripts tag.actor)
+
+-- Each actor's statements are answered in order by the entries of its number, and no further actor makes any
+pub record AllReplied (limit : ℕ) (scripts : List (List Statement)) (part : List JournalEntry) (replies : List (List Reply)) : Type 0 where
+  pub long : length replies ≡ length scripts
+  pub each : (actor : ℕ) (statements : List Statement) (given : List Reply) → slice_get scripts actor ≡ Some statements → slice_get replies actor ≡ Some given
+      → AnsweredTo None (plans_from actor limit 1 statements) (of_actor actor part) given
+  pub none : (actor : ℕ) → slice_get scripts actor ≡ None → of_actor actor part ≡ []
+
+-- the journal has grown by the entries of the actors, by which each has its replies
+unfoldable pub Runs : Program → Option (List JournalEntry) → Option (List JournalEntry) → List (List Reply) → Type 0
+Runs p before after replies = (part : List JournalEntry) × Grows before part after × AllReplied p.limit (scripts_of p) part replies
+
+-- a session that has not made a call, and is to answer these statements
+pub record Begins (actor limit : ℕ) (statements : List Statement) (s : Session) : Type 0 where
+  pub ready : IsReady s
+  pub number : s.actor ≡ actor
+  pub answers : (es : List JournalEntry) (all : List Reply) → Remains s es all → AnsweredTo None (plans_from actor limit 1 statements) es all
+
+-- a session for each list of statements, with the numbers from one on
+abbrev pub AllBegin : ℕ → ℕ → List (List Statement) → List Session → Type 0
+AllBegin limit actor [] sessions = sessions ≡ []
+AllBegin limit actor (statements ∷ scripts) [] = ⊥
+AllBegin limit actor (statements ∷ scripts) (s ∷ sessions) = Begins actor limit statements s × AllBegin limit (suc actor) scripts sessions
+
+-- the journal has grown by the calls of actor 0 to its end, and then by those of the sessions in the order of the items, then of each to its end
+pub record InItsOrder (p : Program) (before after : Option (List JournalEntry)) : Type 0 where
+  pub middle : Option (List JournalEntry)
+  pub first : Session
+  pub first_end : Session
+  pub others : List Session
+  pub others_end : List Session
+  pub first_begins : Begins 0 p.limit (Table p.table ∷ []) first
+  pub others_begin : AllBegin p.limit 1 p.sessions others
+  pub first_runs : RunsPiece (Moves Goes (λ s. s.actor)) (λ s. place_now s.current) End before middle first first_end
+  pub others_follow : FollowsSchedule (Moves Goes (λ s. s.actor)) (λ s. place_now s.current) p.items middle after others others_end
+
+unfoldable pub FollowsItems : Program → Option (List JournalEntry) → Option (List JournalEntry) → Type 0
+FollowsItems p before after = InItsOrder p before after
+
+-- each version follows from the one before at both levels, no statement commits twice, and version 0 has no rows
+pub record IsLawful (scripts : List (List Statement)) (moments : List Moment) : Type 0 where
+  pub serial : (level : Level) → VersionsAreSerial level (statement_of scripts) moments
+  pub once : CommitsOnce moments
+  pub empty : FirstIsEmpty moments
+
+-- from an empty journal on, where each inserted row is one or more numbers: so is every legal completion of the journal
+unfoldable pub IsSerial : Program → Option (List JournalEntry) → Option (List JournalEntry) → Type 0
+IsSerial p before after =
+    before ≡ Some [] → All (λ statements. All IsPlain statements) p.sessions → (journal : List JournalEntry) → after ≡ Some journal
+    → (moments : List Moment) → IsLegal [] 0 moments → entries_of moments ≡ journal → IsLawful (scripts_of p) moments

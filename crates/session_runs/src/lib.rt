@@ -1,0 +1,118 @@
+//! Sessions of statements over one table, run in the order of a schedule.
+#![tactic(auto)]
+
+ghost use Rattle.std.specs.Prelude.{◌≡◌, ◌≤◌, ◌<◌, ◌+◌, ◌++◌, [], ◌∷◌, length, All, map, IfOk, OnOk, OnErr, vec_capacity};
+ghost use Rattle.edge_api.specs.Actor.{Moves};
+ghost use Rattle.actor_core.specs.Schedule.{FollowsSchedule, TakesTurns};
+ghost use Rattle.sessions.specs.Session.{IsLimit, IsReady, left, Goes, place_now};
+ghost use Rattle.session_runs.specs.Run.{IsPlain, Runs, FollowsItems, IsSerial, Begins, AllBegin};
+
+use actor_core::{Item, Till, run_piece, run_schedule};
+use edge_api::World;
+use op_types::{SessionReplies, Statement, TableSpec};
+use row_base::NoMemory;
+use sessions::Session;
+use std::alloc::Global;
+
+/// The session of an actor, which is never killed.
+fn begin_session(
+    alloc: Global,
+    actor: u16,
+    statements: Vec<Statement>,
+    limit: u32,
+) -> Result<Session, NoMemory>
+    requires limit { IsLimit limit }
+    requires few { length statements.items ≤ 4096 }
+    ensures { IfOk result (Begins actor limit statements.items) }
+{
+    Session::new(alloc, actor, statements, limit, None)
+}
+
+/// The session of actor 0, which makes the table.
+fn table_session(alloc: Global, table: TableSpec, limit: u32) -> Result<Session, NoMemory>
+    requires { IsLimit limit }
+    ensures { IfOk result (Begins 0 limit (Statement.Table table ∷ [])) }
+{
+    let mut statements = Vec::with_capacity(alloc, 1)?;
+    statements.push(Statement::Table(table))?;
+    begin_session(alloc, 0, statements, limit)
+}
+
+/// A session for each list of statements, with the numbers from 1 on.
+fn make_sessions(
+    alloc: Global,
+    scripts: Vec<Vec<Statement>>,
+    limit: u32,
+) -> Result<Vec<Session>, NoMemory>
+    requires limit { IsLimit limit }
+    requires sessions { length scripts.items ≤ 64 }
+    requires statements { All (λ s. length s.items ≤ 4096) scripts.items }
+    ensures { IfOk result (λ sessions. AllBegin limit 1 (map (λ s. s.items) scripts.items) sessions.items) }
+{
+    let mut sessions = Vec::with_capacity(alloc, scripts.len())?;
+    let mut actor = 1;
+    for statements in scripts {
+        let session = begin_session(alloc, actor, statements, limit)?;
+        sessions.push(session)?;
+        actor += 1;
+    }
+    Ok(sessions)
+}
+
+/// Makes the calls of the items, then runs each unfinished session to its end.
+fn run_others<W: World>(sessions: &mut Vec<Session>, world: &mut W, items: &[Item])
+    requires items { All (λ i. (0 < i.actor) × (i.actor ≤ length sessions.old.items)) items.now }
+    requires ready { All IsReady sessions.old.items }
+    ensures long { length sessions.new.items ≡ length sessions.old.items }
+    ensures ready { All IsReady sessions.new.items }
+    ensures done { All (λ s. left s ≡ 0) sessions.new.items }
+    ensures follows { FollowsSchedule (Moves Goes (λ s. s.actor)) (λ s. place_now s.current) items.now (W.journal world.old) (W.journal world.new) sessions.old.items sessions.new.items }
+    ensures turns { TakesTurns (Moves Goes (λ s. s.actor)) (W.journal world.old) (W.journal world.new) sessions.old.items sessions.new.items }
+{
+    run_schedule(sessions, world, items);
+}
+
+/// Adds the replies of each session. It takes no memory.
+fn give_replies(replies: &mut Vec<SessionReplies>, sessions: Vec<Session>)
+    requires room { length replies.old.items + length sessions.items ≤ vec_capacity replies.old }
+    ensures { replies.new.items ≡ replies.old.items ++ map (λ s. s.replies.items) sessions.items }
+{
+    for session in sessions {
+        replies
+            .push(SessionReplies::make(session.into_replies()))
+            .unwrap();
+    }
+}
+
+/// Runs actor 0, which makes the table, to its end. Then makes the calls of the items, where actor k has the
+/// statements of the k-th session, counted from 1, and runs each unfinished session to its end in order. The
+/// replies are those of actor 0, then those of each session. The error is want of memory before the first call.
+pub fn run_program<W: World>(
+    alloc: Global,
+    table: TableSpec,
+    sessions: Vec<Vec<Statement>>,
+    limit: u32,
+    items: &[Item],
+    world: &mut W,
+) -> Result<Vec<SessionReplies>, NoMemory>
+    requires some { 0 < limit }
+    requires few { limit ≤ 1000000 }
+    requires sessions { length sessions.items ≤ 64 }
+    requires statements { All (λ s. length s.items ≤ 4096) sessions.items }
+    requires items { All (λ i. (0 < i.actor) × (i.actor ≤ length sessions.items)) items.now }
+    ensures runs { IfOk result (λ replies. Runs (record { table = table; sessions = map (λ s. s.items) sessions.items; limit = limit; items = items.now }) (W.journal world.old) (W.journal world.new) replies.items) }
+    ensures follows { OnOk result (FollowsItems (record { table = table; sessions = map (λ s. s.items) sessions.items; limit = limit; items = items.now }) (W.journal world.old) (W.journal world.new)) }
+    ensures serial { OnOk result (IsSerial (record { table = table; sessions = map (λ s. s.items) sessions.items; limit = limit; items = items.now }) (W.journal world.old) (W.journal world.new)) }
+    ensures none { OnErr result (W.journal world.new ≡ W.journal world.old) }
+{
+    let mut replies = Vec::with_capacity(alloc, sessions.len() + 1)?;
+    let mut first = table_session(alloc, table, limit)?;
+    let mut others = make_sessions(alloc, sessions, limit)?;
+    run_piece(&mut first, world, Till::End);
+    run_others(&mut others, world, items);
+    replies
+        .push(SessionReplies::make(first.into_replies()))
+        .unwrap();
+    give_replies(&mut replies, others);
+    Ok(replies)
+}
