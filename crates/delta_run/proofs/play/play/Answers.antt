@@ -1,0 +1,23 @@
+use Rattle.std.proofs.Common.{rules, ◌≡◌, ◌≤◌, length, map, Vec, Global, inr}
+use Rattle.op_types.specs.declared.statement.Statement.{Statement}
+use Rattle.script_text.specs.declared.script.SessionScript.{SessionScript}
+use Rattle.script_text.specs.Places.{column_count}
+use Rattle.delta_run.specs.Play.{MayRun, program_of}
+use Rattle.delta_run.proofs.Lists.{few_statements, as_many, items_within, on_err}
+use Rattle.delta_run.proofs.play.play.Goals as goal
+
+pub run_program-requires-clause-statements : goal.run_program-requires-clause-statements
+run_program-requires-clause-statements g c =
+    let vs = c.in_ok-names.field-0.statements.items in
+    let same : map (λ (v : Vec Statement Global). v.items) vs ≡ map (λ (s : SessionScript). s.statements) c.args.script.sessions = search rules in
+    few_statements (column_count c.args.script.header) c.args.script.sessions vs same c.requires.each
+
+pub run_program-requires-clause-items : goal.run_program-requires-clause-items
+run_program-requires-clause-items g c =
+    let vs = c.in_ok-names.field-0.statements.items in
+    let same : map (λ (v : Vec Statement Global). v.items) vs ≡ map (λ (s : SessionScript). s.statements) c.args.script.sessions = search rules in
+    let items : c.as_slice.result.now ≡ c.args.script.items = search rules in
+    items_within (length c.args.script.sessions) (length vs) c.args.script.items c.as_slice.result.now (as_many c.args.script.sessions vs same) items c.requires.items
+
+pub returns-clause-err : goal.returns-clause-err
+returns-clause-err g c = on_err c.print_replies.result _ (inr (c.in_ok-replies.replies.items, search rules))

@@ -1,0 +1,43 @@
+-- The exit status of a run, and the text that tells its fault.
+use Rattle.std.specs.Prelude.{◌≡◌, ℕ, List, [], ◌++◌, codes}
+use Rattle.std.specs.Fmt.{decimal}
+use Rattle.script_text.specs.declared.script.ScriptFaultKind.{ScriptFaultKind}
+use Rattle.script_text.specs.declared.script.ScriptFaultKind.TheVariants as kinds
+use Rattle.delta_run.specs.declared.status.Status.{Status}
+use Rattle.delta_run.specs.declared.status.Status.TheVariants.{Done, NoWords, NoScript, ReadFault, WriteFault, NoMemory, TooLong}
+
+abbrev pub kind_text : ScriptFaultKind → List ℕ
+kind_text kinds.Utf8 = codes "utf8"
+kind_text kinds.Header = codes "header"
+kind_text kinds.Form = codes "form"
+kind_text kinds.Session = codes "session"
+kind_text kinds.Limit = codes "limit"
+kind_text kinds.NoMemory = codes "memory"
+
+abbrev pub code_of : Status → ℕ
+code_of Done = 0
+code_of NoWords = 2
+code_of (NoScript fault) = 3
+code_of ReadFault = 4
+code_of WriteFault = 5
+code_of NoMemory = 6
+code_of TooLong = 7
+
+abbrev pub text_of : Status → List ℕ
+text_of Done = []
+text_of NoWords = codes "words: step, threads, dir --path P, gen --size N\n"
+text_of (NoScript fault) = codes "script: line " ++ decimal fault.line ++ codes " " ++ kind_text fault.kind ++ codes "\n"
+text_of ReadFault = codes "read failed\n"
+text_of WriteFault = codes "write failed\n"
+text_of NoMemory = codes "no memory\n"
+text_of TooLong = codes "script longer than 16777216 bytes\n"
+
+-- a text that needs no number
+abbrev pub IsFixed : Status → List ℕ → Type 0
+IsFixed (NoScript fault) text = Unit {0}
+IsFixed Done text = text ≡ text_of Done
+IsFixed NoWords text = text ≡ text_of NoWords
+IsFixed ReadFault text = text ≡ text_of ReadFault
+IsFixed WriteFault text = text ≡ text_of WriteFault
+IsFixed NoMemory text = text ≡ text_of NoMemory
+IsFixed TooLong text = text ≡ text_of TooLong

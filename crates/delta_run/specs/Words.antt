@@ -1,0 +1,10 @@
+-- The words that are accepted.
+use Rattle.std.specs.Prelude.{ℕ, if◌then◌else◌, List, [], ◌∷◌, Option, Some, None, codes}
+use Rattle.std.specs.Str.{bytes_eq}
+use Rattle.delta_run.specs.declared.words.Words.{Words}
+use Rattle.delta_run.specs.declared.words.Words.TheVariants.{Step}
+
+abbrev pub words_of : List (List ℕ) → Option Words
+words_of [] = None
+words_of (word ∷ []) = if bytes_eq word (codes "step") then Some Step else None
+words_of (word ∷ more ∷ words) = None
