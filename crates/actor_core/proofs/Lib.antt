@@ -5,3 +5,4 @@ pub mod Orders
 pub mod Numbers
 pub mod Orderly
 pub mod JournalOrder
+pub mod Faults

@@ -1,3 +1,4 @@
 pub mod Entries
 pub mod Piece
 pub mod Schedule
+pub mod Faults

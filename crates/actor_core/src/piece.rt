@@ -3,6 +3,7 @@ ghost use Rattle.std.specs.Prelude.{◌≡◌, ◌<◌, ℕ};
 ghost use Rattle.std.specs.Bool.{OnTrue, OnFalse};
 ghost use Rattle.edge_api.specs.Actor.{Moves};
 ghost use Rattle.actor_core.specs.Piece.{stays, stops, Steps, RunsOn, RunsPiece, RunsAlone};
+ghost use Rattle.actor_core.specs.Faults.{FaultsAreCounted};
 
 use edge_api::{Actor, Fed, Stage, Step, World};
 
@@ -54,6 +55,7 @@ pub fn step_actor<A: Actor, W: World>(actor: &mut A, world: &mut W) -> bool
     ensures ready { A.ready actor.new }
     ensures steps { OnTrue result (Steps (Moves A.goes A.number) (W.journal world.old) (W.journal world.new) actor.old actor.new) }
     ensures falls { OnTrue result (A.left actor.new < A.left actor.old) }
+    ensures counted { FaultsAreCounted (W.journal world.old) (W.journal world.new) (W.faults world.old) (W.faults world.new) }
     ensures done { OnFalse result ((actor.new ≡ actor.old) × (W.journal world.new ≡ W.journal world.old) × (A.left actor.old ≡ 0)) }
 {
     match actor.next() {
@@ -74,6 +76,7 @@ fn run_on<A: Actor, W: World>(actor: &mut A, world: &mut W, till: Till)
     ensures ready { A.ready actor.new }
     ensures ends { till ≡ Till.End → A.left actor.new ≡ 0 }
     ensures runs { RunsOn (Moves A.goes A.number) A.stands till (W.journal world.old) (W.journal world.new) actor.old actor.new }
+    ensures counted { FaultsAreCounted (W.journal world.old) (W.journal world.new) (W.faults world.old) (W.faults world.new) }
 {
     let mut stopped = till.stops(actor.stage());
     while !stopped {
@@ -89,6 +92,7 @@ pub fn run_piece<A: Actor, W: World>(actor: &mut A, world: &mut W, till: Till)
     ensures ends { till ≡ Till.End → A.left actor.new ≡ 0 }
     ensures runs { RunsPiece (Moves A.goes A.number) A.stands till (W.journal world.old) (W.journal world.new) actor.old actor.new }
     ensures alone { RunsAlone A.goes A.number (W.journal world.old) (W.journal world.new) actor.old actor.new }
+    ensures counted { FaultsAreCounted (W.journal world.old) (W.journal world.new) (W.faults world.old) (W.faults world.new) }
 {
     if !till.stays(actor.stage()) {
         step_actor(actor, world);

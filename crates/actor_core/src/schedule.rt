@@ -2,6 +2,7 @@
 ghost use Rattle.std.specs.Prelude.{◌≡◌, ◌<◌, ◌≤◌, ℕ, length, All};
 ghost use Rattle.edge_api.specs.Actor.{Moves};
 ghost use Rattle.actor_core.specs.Schedule.{till_of, slots_of, to_the_end, FollowsSlots, FollowsSchedule, TakesTurns, AreApart, EachOwnPart};
+ghost use Rattle.actor_core.specs.Faults.{FaultsAreCounted};
 
 use crate::{Till, run_piece};
 use edge_api::{Actor, World};
@@ -45,6 +46,7 @@ fn run_items<A: Actor, W: World>(actors: &mut [A], world: &mut W, items: &[Item]
     requires ready { All A.ready actors.old }
     ensures ready { All A.ready actors.new }
     ensures follows { FollowsSlots (Moves A.goes A.number) A.stands (slots_of items.now) (W.journal world.old) (W.journal world.new) actors.old actors.new }
+    ensures counted { FaultsAreCounted (W.journal world.old) (W.journal world.new) (W.faults world.old) (W.faults world.new) }
 {
     for item in items {
         let actor = &mut actors[item.actor as usize - 1];
@@ -58,6 +60,7 @@ fn run_rest<A: Actor, W: World>(actors: &mut [A], world: &mut W)
     ensures ready { All A.ready actors.new }
     ensures done { All (λ a. A.left a ≡ 0) actors.new }
     ensures follows { FollowsSlots (Moves A.goes A.number) A.stands (to_the_end (length actors.old)) (W.journal world.old) (W.journal world.new) actors.old actors.new }
+    ensures counted { FaultsAreCounted (W.journal world.old) (W.journal world.new) (W.faults world.old) (W.faults world.new) }
 {
     for actor in actors.iter_mut() {
         run_piece(actor, world, Till::End);
@@ -75,6 +78,7 @@ pub fn run_schedule<A: Actor, W: World>(actors: &mut [A], world: &mut W, items: 
     ensures follows { FollowsSchedule (Moves A.goes A.number) A.stands items.now (W.journal world.old) (W.journal world.new) actors.old actors.new }
     ensures turns { TakesTurns (Moves A.goes A.number) (W.journal world.old) (W.journal world.new) actors.old actors.new }
     ensures own { AreApart A.number actors.old → EachOwnPart (Moves A.goes A.number) A.number (W.journal world.old) (W.journal world.new) actors.old actors.new }
+    ensures counted { FaultsAreCounted (W.journal world.old) (W.journal world.new) (W.faults world.old) (W.faults world.new) }
 {
     run_items(actors, world, items);
     run_rest(actors, world);

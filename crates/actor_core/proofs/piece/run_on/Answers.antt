@@ -1,6 +1,7 @@
 use Rattle.std.proofs.Common.{rules, ◌≡◌, ◌<◌, true, false, sym, ◌∙◌}
 use Rattle.edge_api.specs.Actor.{Moves}
 use Rattle.actor_core.proofs.Pieces.{led_more, led_end, on_false}
+use Rattle.actor_core.proofs.Faults.{counted_more}
 use Rattle.actor_core.proofs.piece.run_on.Goals as goal
 
 pub loop-stopped-preserved : goal.loop-stopped-preserved
@@ -17,6 +18,7 @@ loop-stopped-preserved g c =
       ends = search rules;
       led = led_more (Moves g.A.Actor.goes g.A.Actor.number) g.A.Actor.stands c.args.till _ (j c.args.world.now) (j c.loop-stopped.world) (j c.step_actor.new.world) c.args.actor.now c.loop-stopped.actor c.step_actor.new.actor
           (g.A.Actor.left c.loop-stopped.actor) c.step_actor.result e.steps e.done (on_false c.loop-stopped.stopped (0 < g.A.Actor.left c.loop-stopped.actor) on i.some) (sym i.is ∙ on) i.led;
+      counted = counted_more (j c.args.world.now) (j c.loop-stopped.world) (j c.step_actor.new.world) (g.W.World.faults c.args.world.now) (g.W.World.faults c.loop-stopped.world) (g.W.World.faults c.step_actor.new.world) i.counted e.counted;
     }
 
 pub returns-clause-runs : goal.returns-clause-runs

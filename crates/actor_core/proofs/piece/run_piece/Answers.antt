@@ -2,6 +2,7 @@ use Rattle.std.proofs.Common.{rules, ◌≡◌, ◌<◌, false}
 use Rattle.edge_api.specs.Actor.{Moves}
 use Rattle.actor_core.specs.Piece.{stays}
 use Rattle.actor_core.proofs.Pieces.{piece_of, piece_alone}
+use Rattle.actor_core.proofs.Faults.{counted_more}
 use Rattle.actor_core.proofs.piece.run_piece.Goals as goal
 
 pub returns-then-not-stays-clause-runs : goal.returns-then-not-stays-clause-runs
@@ -17,3 +18,9 @@ pub returns-then-not-stays-clause-alone : goal.returns-then-not-stays-clause-alo
 returns-then-not-stays-clause-alone g c =
     let j = g.W.World.journal in
     piece_alone g.A.Actor.goes g.A.Actor.number g.A.Actor.stands c.args.till (j c.args.world.now) (j c.run_on.new.world) c.args.actor.now c.run_on.new.actor (returns-then-not-stays-clause-runs g c)
+
+pub returns-then-not-stays-clause-counted : goal.returns-then-not-stays-clause-counted
+returns-then-not-stays-clause-counted g c =
+    let j = g.W.World.journal in
+    let f = g.W.World.faults in
+    counted_more (j c.args.world.now) (j c.step_actor.new.world) (j c.run_on.new.world) (f c.args.world.now) (f c.step_actor.new.world) (f c.run_on.new.world) c.step_actor.ensures.counted c.run_on.ensures.counted

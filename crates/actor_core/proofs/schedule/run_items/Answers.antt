@@ -5,6 +5,7 @@ use Rattle.actor_core.specs.declared.schedule.ItemForm.TheVariants.{One}
 use Rattle.actor_core.specs.Schedule.{Slot, till_of, slots_of, FollowsSlots}
 use Rattle.actor_core.proofs.Lists.{at_item}
 use Rattle.actor_core.proofs.Orders.{follows_one, follows_more, slots_take}
+use Rattle.actor_core.proofs.Faults.{counted_more}
 use Rattle.actor_core.proofs.schedule.run_items.Goals as goal
 
 pub loop-item-preserved : goal.loop-item-preserved
@@ -27,4 +28,5 @@ loop-item-preserved g c =
     record {
       ready = All-set g.A.Actor.ready mids k c.run_piece.new.actor c.run_piece.ensures.ready c.loop-item.invariant.ready;
       follows = subst (λ (ps : List Slot). FollowsSlots goes stands ps (j c.args.world.now) (j c.run_piece.new.world) c.args.actors.now (set mids k c.run_piece.new.actor)) (sym (slots_take items n item here (search rules))) more;
+      counted = counted_more (j c.args.world.now) (j c.loop-item.world) (j c.run_piece.new.world) (g.W.World.faults c.args.world.now) (g.W.World.faults c.loop-item.world) (g.W.World.faults c.run_piece.new.world) c.loop-item.invariant.counted c.run_piece.ensures.counted;
     }

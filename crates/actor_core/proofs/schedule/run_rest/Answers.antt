@@ -5,6 +5,7 @@ use Rattle.actor_core.specs.declared.piece.Till.TheVariants.{End}
 use Rattle.actor_core.specs.Schedule.{Slot, to_the_end, FollowsSlots}
 use Rattle.actor_core.proofs.Lists.{at_item}
 use Rattle.actor_core.proofs.Orders.{follows_one, follows_more, end_more}
+use Rattle.actor_core.proofs.Faults.{counted_more}
 use Rattle.actor_core.proofs.schedule.run_rest.Goals as goal
 
 pub loop-actor-preserved : goal.loop-actor-preserved
@@ -24,4 +25,5 @@ loop-actor-preserved g c =
       ready = All-set g.A.Actor.ready mids k new c.run_piece.ensures.ready c.loop-actor.invariant.ready;
       done = AllWithin-more_set mids k new within (λ a. g.A.Actor.left a ≡ 0) c.loop-actor.invariant.done (c.run_piece.ensures.ends refl);
       follows = subst (λ (ps : List Slot). FollowsSlots goes stands ps (j c.args.world.now) (j c.run_piece.new.world) c.args.actors.now (set mids k new)) (sym (end_more k)) more;
+      counted = counted_more (j c.args.world.now) (j c.loop-actor.world) (j c.run_piece.new.world) (g.W.World.faults c.args.world.now) (g.W.World.faults c.loop-actor.world) (g.W.World.faults c.run_piece.new.world) c.loop-actor.invariant.counted c.run_piece.ensures.counted;
     }
