@@ -11,9 +11,14 @@ use Rattle.std.proofs.lemmas.List.Elements.{All-append, All-push}
 use Rattle.actor_core.specs.declared.schedule.Item.{Item}
 use Rattle.actor_core.specs.declared.schedule.ItemForm.{ItemForm}
 use Rattle.row_base.specs.declared.row.Datum.{Datum as ADatum}
+use Rattle.row_base.specs.declared.row.Datum.TheVariants as datum
 use Rattle.op_types.specs.declared.statement.Statement.{Statement as AStatement}
 use Rattle.op_types.specs.declared.statement.Statement.TheVariants as statement
+use Rattle.script_tokens.specs.declared.token.Token.{Token}
 use Rattle.script_tokens.proofs.Runs.{some_is, guarded, and_true}
+use Rattle.script_grammar.specs.Shape.{a_literal, spell, is_literal, Fits, FitsMore, FitsMany}
+use Rattle.script_text.specs.Lines.{column, row, Says}
+use Rattle.script_text.specs.declared.line.Line.TheVariants as line
 use Rattle.script_text.specs.declared.script.Script.{Script}
 use Rattle.script_text.specs.declared.script.SessionScript.{SessionScript}
 use Rattle.script_text.specs.declared.script.Header.{Header as AHeader}
@@ -25,7 +30,7 @@ use Rattle.script_text.specs.declared.place.Entry.TheVariants as entry
 use Rattle.script_text.specs.Items.{NamedItem}
 use Rattle.script_text.specs.Places.{attempts_of, are_columns, table_of, column_count, fit_table, place_named, placed, Stands, attempts, table, first_session, schedule_at_once, next_session, insert, select, schedule, items, is_known, is_within, item_of_place, known_item, with_session, with_statement, with_items, begun, after}
 use Rattle.script_text.specs.Scripts.{Takes, passed, entered, Follows, here, next, script_of, SpellsScript, pieces}
-use Rattle.script_text.specs.Fit.{AreFitRows, IsFitStatement, IsFitSession, IsFitHeader, IsFit}
+use Rattle.script_text.specs.Fit.{IsLong, AreFitRows, IsFitStatement, IsFitSession, IsFitHeader, IsFit}
 
 lt_from : (m n : ℕ) → nat_lt m n ≡ true → m < n
 lt_from m n h = grind (arith, nat_tests)
@@ -49,14 +54,46 @@ limit_read (pos n) = by_test (nat_le 1 n && nat_le n 1000000) refl
     by_test false e = tt
 limit_read (negsuc n) = tt
 
+one_more : {X : Type 0} (P : X → Type 0) (x : X) (xs : List X) → P x → All P xs → All P (x ∷ xs)
+one_more P x xs p h = All-append P (x ∷ []) xs (All-push P [] x (no_elements P) p) h
+
+-- ---- what the grammar says of rows and columns
+
+module _ {A : Type 0} (spells : A → List Token) (fits : A → List Token → Type 0) (P : A → Type 0) (each : (v : A) (rest : List Token) → fits v rest → P v) where
+  all_more : (vs : List A) (rest : List Token) → FitsMore spells fits vs rest → All P vs
+  all_more [] rest h = no_elements P
+  all_more (v ∷ vs) rest h = one_more P v vs (each v _ h.0) (all_more vs rest h.1)
+
+  all_many : (vs : List A) (rest : List Token) → FitsMany spells fits vs rest → All P vs
+  all_many [] rest h = absurd h
+  all_many (v ∷ vs) rest h = one_more P v vs (each v _ h.0) (all_more vs rest h.1)
+
+literal_is_long : (d : ADatum) (rest : List Token) → Fits a_literal d rest → IsLong d
+literal_is_long (datum.Long n) rest h = tt
+literal_is_long datum.Null rest h = absurd cc
+literal_is_long (datum.Integer n) rest h = absurd cc
+literal_is_long (datum.Boolean b) rest h = absurd cc
+literal_is_long (datum.Text t) rest h = absurd cc
+literal_is_long (datum.Date d) rest h = absurd cc
+
+row_is_long : (r : List ADatum) (rest : List Token) → Fits row r rest → All IsLong r
+row_is_long r rest h = all_many (spell a_literal) (Fits a_literal) IsLong literal_is_long r _ h
+
+inserted_long : (l : List ℕ) (rows : List (List ADatum)) → Says l (line.Insert rows) → All (All IsLong) rows
+inserted_long l rows h = all_many (spell row) (Fits row) (All IsLong) row_is_long rows [] h.spelled.fits.1.1.1
+
+some_of_many : {A : Type 0} (spells : A → List Token) (fits : A → List Token → Type 0) (vs : List A) (rest : List Token) → FitsMany spells fits vs rest → 1 ≤ length vs
+some_of_many spells fits [] rest h = absurd h
+some_of_many spells fits (v ∷ vs) rest h = omega arith
+
+some_columns : (l : List ℕ) (names : List (List ℕ)) → Says l (line.Table names) → 1 ≤ length names
+some_columns l names h = some_of_many (spell column) (Fits column) names _ h.spelled.fits.1
+
 rows_as_long : (columns : ℕ) (rows : List (List ADatum)) → list_all (λ r. length r == columns) rows ≡ true → All (λ r. length r ≡ columns) rows
 rows_as_long columns [] h = no_elements _
 rows_as_long columns (r ∷ rows) h =
     let k = and_true (length r == columns) (list_all (λ q. length q == columns) rows) h in
-    All-append (λ q. length q ≡ columns) (r ∷ []) rows (only_one (eqb-true _ _ k.0)) (rows_as_long columns rows k.1)
-  where
-    only_one : length r ≡ columns → All (λ q. length q ≡ columns) (r ∷ [])
-    only_one e = All-push (λ q. length q ≡ columns) [] r (no_elements _) e
+    one_more (λ q. length q ≡ columns) r rows (eqb-true _ _ k.0) (rows_as_long columns rows k.1)
 
 place_within : (sessions : List SessionScript) (name : List ℕ) (n : ℕ) → place_named sessions name ≡ Some n → (0 < n) × (n ≤ length sessions)
 place_within sessions name n h = by_place (position (λ s. bytes_eq s.name name) sessions) refl h
@@ -110,9 +147,9 @@ IsFitPlace (Headed s) = IsFitHeaded s
 IsFitPlace (Session s current) = IsFitCurrent s current
 IsFitPlace (Items s) = IsFit s
 
-begun_fit : (a : Option ℕ) (names : List (List ℕ)) → IsLimit a → are_columns names ≡ true → IsFitHeaded (begun a (table_of names))
-begun_fit None names l c = record { script = record { least = omega arith; most = omega arith; header = record { names = names; table = refl; distinct = c }; sessions = omega arith; each = no_elements _; count = omega arith; items = no_elements _ }; no_items = refl }
-begun_fit (Some n) names l c = record { script = record { least = l.0; most = l.1; header = record { names = names; table = refl; distinct = c }; sessions = omega arith; each = no_elements _; count = omega arith; items = no_elements _ }; no_items = refl }
+begun_fit : (a : Option ℕ) (names : List (List ℕ)) → IsLimit a → 1 ≤ length names → are_columns names ≡ true → IsFitHeaded (begun a (table_of names))
+begun_fit None names l m c = record { script = record { least = omega arith; most = omega arith; header = record { names = names; table = refl; some = m; distinct = c }; sessions = omega arith; each = no_elements _; count = omega arith; items = no_elements _ }; no_items = refl }
+begun_fit (Some n) names l m c = record { script = record { least = l.0; most = l.1; header = record { names = names; table = refl; some = m; distinct = c }; sessions = omega arith; each = no_elements _; count = omega arith; items = no_elements _ }; no_items = refl }
 
 new_session : (columns : ℕ) (name : List ℕ) → IsFitSession columns (record { name = name; statements = [] })
 new_session columns name = record { count = omega arith; each = no_elements _ }
@@ -142,13 +179,13 @@ with_one s current x f k lt = record {
 fit_after : (p : Place) (l : List ℕ) (e : Entry) → Stands p l e → is_within p e ≡ true → IsFitPlace p → IsFitPlace (after p e)
 unfolding is_within after
 fit_after _ _ _ (attempts l n s) w f = limit_read n
-fit_after _ _ _ (table a l names s c) w f = begun_fit a names f c
+fit_after _ _ _ (table a l names s c) w f = begun_fit a names f (some_columns l names s) c
 fit_after _ _ _ (first_session s l name h k) w f = record { script = f.script; no_items = f.no_items; session = new_session (column_count s.header) name; room = omega (arith, lt_from (length s.sessions) 64 w) }
 fit_after _ _ _ (schedule_at_once s l h) w f = f.script
 fit_after _ _ _ (next_session s current l name h k) w f = record { script = closed_fit s current f; no_items = f.no_items; session = new_session (column_count s.header) name; room = omega (arith, lt_from (length s.sessions + 1) 64 w, length-append s.sessions (current ∷ [])) }
 fit_after _ _ _ (insert s current l rows h k) w f =
     let t = and_true (nat_le (length rows) 65536) (nat_lt (length current.statements) 4096) w in
-    with_one s current (statement.Insert rows) f (record { count = le_from (length rows) 65536 t.0; lengths = rows_as_long (column_count s.header) rows k }) (lt_from (length current.statements) 4096 t.1)
+    with_one s current (statement.Insert rows) f (record { count = le_from (length rows) 65536 t.0; lengths = rows_as_long (column_count s.header) rows k; longs = inserted_long l rows h }) (lt_from (length current.statements) 4096 t.1)
 fit_after _ _ _ (select s current l h) w f =
     let t = and_true (nat_le 0 65536) (nat_lt (length current.statements) 4096) w in
     with_one s current statement.Select f tt (lt_from (length current.statements) 4096 t.1)

@@ -2,6 +2,7 @@
 use Rattle.std.specs.Prelude.{◌≡◌, ℕ, ◌<◌, ◌≤◌, true, List, length, All}
 use Rattle.actor_core.specs.declared.schedule.Item.{Item}
 use Rattle.row_base.specs.declared.row.Datum.{Datum as ADatum}
+use Rattle.row_base.specs.declared.row.Datum.TheVariants as datum
 use Rattle.op_types.specs.declared.statement.Statement.{Statement as AStatement}
 use Rattle.op_types.specs.declared.statement.Statement.TheVariants as statement
 use Rattle.script_text.specs.declared.script.Script.{Script}
@@ -10,10 +11,20 @@ use Rattle.script_text.specs.declared.script.Header.{Header as AHeader}
 use Rattle.script_text.specs.declared.script.Header.TheVariants as header
 use Rattle.script_text.specs.Places.{column_count, are_columns, table_of}
 
--- at most 65,536 rows, each a literal for each of so many columns
+-- a long number, and not null
+abbrev pub IsLong : ADatum → Type 0
+IsLong (datum.Long n) = Unit {0}
+IsLong datum.Null = ⊥
+IsLong (datum.Integer n) = ⊥
+IsLong (datum.Boolean b) = ⊥
+IsLong (datum.Text t) = ⊥
+IsLong (datum.Date d) = ⊥
+
+-- at most 65,536 rows, each a long number for each of so many columns
 pub record AreFitRows (columns : ℕ) (rows : List (List ADatum)) : Type 0 where
   pub count : length rows ≤ 65536
   pub lengths : All (λ r. length r ≡ columns) rows
+  pub longs : All (All IsLong) rows
 
 -- a statement over a table of so many columns
 abbrev pub IsFitStatement : ℕ → AStatement → Type 0
@@ -26,10 +37,11 @@ pub record IsFitSession (columns : ℕ) (session : SessionScript) : Type 0 where
   pub count : length session.statements ≤ 4096
   pub each : All (IsFitStatement columns) session.statements
 
--- the table has at most 64 columns of different names, all long and not null
+-- the table has 1 to 64 columns of different names, all long and not null
 pub record IsFitHeader (h : AHeader) : Type 0 where
   pub names : List (List ℕ)
   pub table : h ≡ table_of names
+  pub some : 1 ≤ length names
   pub distinct : are_columns names ≡ true
 
 -- 1 to 1,000,000 puts, at most 64 sessions, and at most 1,048,576 items, each of one of the sessions
