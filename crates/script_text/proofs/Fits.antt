@@ -1,11 +1,10 @@
 -- What holds of every script that some bytes spell.
-use Rattle.std.proofs.Common.{◌≡◌, ℕ, ℤ, pos, negsuc, zero, suc, ◌+◌, ◌<◌, ◌≤◌, Bool, true, false, cond, List, [], ◌∷◌, ◌++◌, length, map, Option, Some, None, refl, sym, ap, subst, ◌∙◌, arith, inl, inr, length-append, All, get_or}
-use Rattle.std.specs.Prelude.{◌==◌, ◌&&◌, nat_lt, nat_le, option_map, is_some}
+use Rattle.std.proofs.Common.{◌≡◌, ℕ, ℤ, pos, negsuc, ◌+◌, ◌<◌, ◌≤◌, Bool, true, false, cond, List, [], ◌∷◌, ◌++◌, length, map, Option, Some, None, refl, sym, subst, arith, length-append, All}
+use Rattle.std.specs.Prelude.{◌==◌, ◌&&◌, nat_lt, nat_le, option_map}
 use Rattle.std.specs.List.{list_all, flat_map, position, position_or_len}
 use Rattle.std.specs.Str.{bytes_eq}
 use Rattle.std.proofs.lemmas.Bool.{eqb-true}
 use Rattle.std.proofs.lemmas.Bool.Decides.{nat_tests}
-use Rattle.std.proofs.lemmas.List.{append-nil}
 use Rattle.std.proofs.lemmas.List.Concat.{flat_map-cons}
 use Rattle.std.proofs.lemmas.List.Elements.{All-append, All-push}
 use Rattle.actor_core.specs.declared.schedule.Item.{Item}
@@ -16,21 +15,20 @@ use Rattle.op_types.specs.declared.statement.Statement.{Statement as AStatement}
 use Rattle.op_types.specs.declared.statement.Statement.TheVariants as statement
 use Rattle.script_tokens.specs.declared.token.Token.{Token}
 use Rattle.script_tokens.proofs.Runs.{some_is, guarded, and_true}
-use Rattle.script_grammar.specs.Shape.{a_literal, spell, is_literal, Fits, FitsMore, FitsMany}
-use Rattle.script_text.specs.Lines.{column, row, Says}
+use Rattle.script_grammar.specs.Shape.{a_literal, spell, comma_before, separated, Fits, FitsMore, FitsMany}
+use Rattle.script_text.specs.Lines.{column, row, line_shape, line_value, Says}
 use Rattle.script_text.specs.declared.line.Line.TheVariants as line
 use Rattle.script_text.specs.declared.script.Script.{Script}
 use Rattle.script_text.specs.declared.script.SessionScript.{SessionScript}
-use Rattle.script_text.specs.declared.script.Header.{Header as AHeader}
 use Rattle.script_text.specs.declared.place.Place.{Place}
 use Rattle.script_text.specs.declared.place.Place.TheVariants.{Start, Headed, Session, Items}
 use Rattle.script_text.specs.declared.place.Placed.{Placed}
 use Rattle.script_text.specs.declared.place.Entry.{Entry}
-use Rattle.script_text.specs.declared.place.Entry.TheVariants as entry
 use Rattle.script_text.specs.Items.{NamedItem}
-use Rattle.script_text.specs.Places.{attempts_of, are_columns, table_of, column_count, fit_table, place_named, placed, Stands, attempts, table, first_session, schedule_at_once, next_session, insert, select, schedule, items, is_known, is_within, item_of_place, known_item, with_session, with_statement, with_items, begun, after}
+use Rattle.script_text.specs.Places.{attempts_of, are_columns, table_of, column_count, place_named, placed, Stands, attempts, table, first_session, schedule_at_once, next_session, insert, select, schedule, items, is_within, item_of_place, known_item, with_session, with_statement, begun, after}
 use Rattle.script_text.specs.Scripts.{Takes, passed, entered, Follows, here, next, script_of, SpellsScript, pieces}
-use Rattle.script_text.specs.Fit.{IsLong, AreFitRows, IsFitStatement, IsFitSession, IsFitHeader, IsFit}
+use Rattle.script_text.proofs.Longs.{AllFit, fit_parts, tokens_fit}
+use Rattle.script_text.specs.Fit.{IsLong, IsFitStatement, IsFitSession, IsFit}
 
 lt_from : (m n : ℕ) → nat_lt m n ≡ true → m < n
 lt_from m n h = grind (arith, nat_tests)
@@ -59,28 +57,30 @@ one_more P x xs p h = All-append P (x ∷ []) xs (All-push P [] x (no_elements P
 
 -- ---- what the grammar says of rows and columns
 
-module _ {A : Type 0} (spells : A → List Token) (fits : A → List Token → Type 0) (P : A → Type 0) (each : (v : A) (rest : List Token) → fits v rest → P v) where
-  all_more : (vs : List A) (rest : List Token) → FitsMore spells fits vs rest → All P vs
-  all_more [] rest h = no_elements P
-  all_more (v ∷ vs) rest h = one_more P v vs (each v _ h.0) (all_more vs rest h.1)
+module _ {A : Type 0} (spells : A → List Token) (fits : A → List Token → Type 0) (P : A → Type 0) (each : (v : A) (rest : List Token) → fits v rest → AllFit (spells v) → P v) where
+  all_more : (vs : List A) (rest : List Token) → FitsMore spells fits vs rest → AllFit (comma_before spells vs) → All P vs
+  all_more [] rest h k = no_elements P
+  all_more (v ∷ vs) rest h k = let two = fit_parts (spells v) (comma_before spells vs) k.1 in one_more P v vs (each v _ h.0 two.0) (all_more vs rest h.1 two.1)
 
-  all_many : (vs : List A) (rest : List Token) → FitsMany spells fits vs rest → All P vs
-  all_many [] rest h = absurd h
-  all_many (v ∷ vs) rest h = one_more P v vs (each v _ h.0) (all_more vs rest h.1)
+  all_many : (vs : List A) (rest : List Token) → FitsMany spells fits vs rest → AllFit (separated spells vs) → All P vs
+  all_many [] rest h k = absurd h
+  all_many (v ∷ vs) rest h k = let two = fit_parts (spells v) (comma_before spells vs) k in one_more P v vs (each v _ h.0 two.0) (all_more vs rest h.1 two.1)
 
-literal_is_long : (d : ADatum) (rest : List Token) → Fits a_literal d rest → IsLong d
-literal_is_long (datum.Long n) rest h = tt
-literal_is_long datum.Null rest h = absurd cc
-literal_is_long (datum.Integer n) rest h = absurd cc
-literal_is_long (datum.Boolean b) rest h = absurd cc
-literal_is_long (datum.Text t) rest h = absurd cc
-literal_is_long (datum.Date d) rest h = absurd cc
+literal_is_long : (d : ADatum) (rest : List Token) → Fits a_literal d rest → AllFit (spell a_literal d) → IsLong d
+literal_is_long (datum.Long n) rest h k = k.0
+literal_is_long datum.Null rest h k = absurd cc
+literal_is_long (datum.Integer n) rest h k = absurd cc
+literal_is_long (datum.Boolean b) rest h k = absurd cc
+literal_is_long (datum.Text t) rest h k = absurd cc
+literal_is_long (datum.Date d) rest h k = absurd cc
 
-row_is_long : (r : List ADatum) (rest : List Token) → Fits row r rest → All IsLong r
-row_is_long r rest h = all_many (spell a_literal) (Fits a_literal) IsLong literal_is_long r _ h
+row_is_long : (r : List ADatum) (rest : List Token) → Fits row r rest → AllFit (spell row r) → All IsLong r
+row_is_long r rest h k = all_many (spell a_literal) (Fits a_literal) IsLong literal_is_long r _ h (fit_parts (separated (spell a_literal) r) _ k.1).0
 
 inserted_long : (l : List ℕ) (rows : List (List ADatum)) → Says l (line.Insert rows) → All (All IsLong) rows
-inserted_long l rows h = all_many (spell row) (Fits row) (All IsLong) row_is_long rows [] h.spelled.fits.1.1.1
+inserted_long l rows h =
+    let said = fit_parts (spell line_shape (line_value (line.Insert rows))) [] (subst AllFit h.spelled.parts (tokens_fit false h.tokens l h.cut)) in
+    all_many (spell row) (Fits row) (All IsLong) row_is_long rows [] h.spelled.fits.1.1.1 said.0.1
 
 some_of_many : {A : Type 0} (spells : A → List Token) (fits : A → List Token → Type 0) (vs : List A) (rest : List Token) → FitsMany spells fits vs rest → 1 ≤ length vs
 some_of_many spells fits [] rest h = absurd h

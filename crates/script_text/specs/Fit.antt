@@ -1,6 +1,6 @@
 -- What holds of every script that some bytes spell.
-use Rattle.std.specs.Prelude.{◌≡◌, ℕ, ◌<◌, ◌≤◌, true, List, length, All}
-use Rattle.actor_core.specs.declared.schedule.Item.{Item}
+use Rattle.std.specs.Prelude.{◌≡◌, ℕ, ◌<◌, ◌≤◌, true, List, length, All, FitsSigned}
+use Rattle.std.specs.Int.{w64}
 use Rattle.row_base.specs.declared.row.Datum.{Datum as ADatum}
 use Rattle.row_base.specs.declared.row.Datum.TheVariants as datum
 use Rattle.op_types.specs.declared.statement.Statement.{Statement as AStatement}
@@ -8,12 +8,11 @@ use Rattle.op_types.specs.declared.statement.Statement.TheVariants as statement
 use Rattle.script_text.specs.declared.script.Script.{Script}
 use Rattle.script_text.specs.declared.script.SessionScript.{SessionScript}
 use Rattle.script_text.specs.declared.script.Header.{Header as AHeader}
-use Rattle.script_text.specs.declared.script.Header.TheVariants as header
 use Rattle.script_text.specs.Places.{column_count, are_columns, table_of}
 
 -- a long number, and not null
 abbrev pub IsLong : ADatum → Type 0
-IsLong (datum.Long n) = Unit {0}
+IsLong (datum.Long n) = FitsSigned w64 n
 IsLong datum.Null = ⊥
 IsLong (datum.Integer n) = ⊥
 IsLong (datum.Boolean b) = ⊥
