@@ -22,9 +22,9 @@ ToldBytes = Option (List ℕ)
 abbrev pub ToldJournal : Type 0
 ToldJournal = Option (List JournalEntry)
 
--- the source was read to its end, and its bytes spell the script
+-- the source was read to its end, within the limit, and its bytes spell the script
 abbrev pub ReadsScript : ToldBytes → ToldBytes → Script → Type 0
-ReadsScript left left' s = (bytes : List ℕ) × ReadsAll left left' bytes × SpellsScript bytes s
+ReadsScript left left' s = (bytes : List ℕ) × ReadsAll left left' bytes × (length bytes ≤ limit) × SpellsScript bytes s
 
 -- the source was read to its end, within the limit, and this is the least bad line of its bytes with its first kind
 abbrev pub FailsToRead : ToldBytes → ToldBytes → ScriptFault → Type 0

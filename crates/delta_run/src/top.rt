@@ -16,6 +16,8 @@ use edge_api::{Gate, ReadError, Sink, Source, World, read_all, write_all};
 use row_base::Text;
 use script_text::{Script, ScriptFaultKind, parse_script};
 use std::alloc::Global;
+use std::sync::Wait;
+use std::thread::Threads;
 
 /// The greatest length of a script in bytes.
 const LIMIT: usize = 16_777_216;
@@ -130,7 +132,7 @@ fn text(told: &Told) -> &[u8]
 }
 
 /// Says a text. Where the sink fails it is cut off.
-fn say<E: Sink>(errors: &mut E, text: &[u8])
+pub fn say<E: Sink>(errors: &mut E, text: &[u8])
     ensures { Says (E.written errors.old) (E.written errors.new) (E.faults errors.old) (E.faults errors.new) text.now }
 {
     let _ = write_all(errors, text);
@@ -159,8 +161,17 @@ pub fn run_step<S: Source, K: Sink, E: Sink, W: World>(
     }
 }
 
-/// The whole work of the program by the words of its command line.
-pub fn run<S: Source, K: Sink, E: Sink, W: World, G: Gate>(
+/// The whole work of the program by the words of its command line. The runtime and the gate are for commands that run
+/// sessions in threads, and there are none yet.
+pub fn run<
+    R: Threads + Wait + Sync,
+    S: Source,
+    K: Sink,
+    E: Sink,
+    W: World + Send,
+    G: Gate + Sync,
+>(
+    _rt: &R,
     alloc: Global,
     words: &[Text],
     source: &mut S,

@@ -13,3 +13,4 @@ pub mod Puts
 pub mod Journals
 pub mod Effects
 pub mod Serial
+pub mod Folded

@@ -7,3 +7,4 @@ pub mod Serial
 pub mod History
 pub mod Runs
 pub mod Laws
+pub mod Folded

@@ -1,0 +1,68 @@
+-- Versions that are serial at the stricter level are a fold of their operations.
+use Rattle.std.proofs.Common.{◌≡◌, ℕ, zero, suc, ◌+◌, ◌-◌, ◌<◌, ◌^◌, Bool, true, false, not, List, [], ◌∷◌, ◌++◌, refl, sym, ◌∙◌, ap, subst, arith}
+use Rattle.std.specs.Prelude.{Option, Some, None}
+use Rattle.edge_api.specs.declared.call.Tag.{Tag}
+use Rattle.edge_api.specs.Journal.{Moment, entries_of}
+use Rattle.op_types.specs.declared.statement.Statement.{Statement}
+use Rattle.table_rules.specs.Names.{commit_text}
+use Rattle.table_laws.specs.Bags.{Row, count_of, SameRows, without, only, others}
+use Rattle.table_laws.specs.Operations.{Operation, Insert, Change, Compact, operation_of, scope_of, result_of, operated}
+use Rattle.table_laws.specs.Conflicts.{Serializable}
+use Rattle.table_laws.specs.Serial.{missed}
+use Rattle.table_laws.specs.History.{Put, history, put_under, rows_at, IsCommitted}
+use Rattle.table_laws.specs.Laws.{statement_of, operation_by, Step, VersionsAreSerial, FirstIsEmpty}
+use Rattle.table_laws.specs.Folded.{done_by, folded, RowsAreFolded, EachVersionIsFolded}
+use Rattle.table_laws.proofs.Bags.{count_of-append, count_of-only, count_of-only-no, count_of-without}
+use Rattle.table_laws.proofs.Serial.{each_version_is_serial, first_version_is_empty}
+
+same_only : (p : Row → Bool) (xs ys : List Row) → SameRows xs ys → SameRows (only p xs) (only p ys)
+same_only p xs ys same x = by (p x) refl
+  where
+    by : (b : Bool) → p x ≡ b → count_of x (only p xs) ≡ count_of x (only p ys)
+    by true e = count_of-only p x xs e ∙ same x ∙ sym (count_of-only p x ys e)
+    by false e = count_of-only-no p x xs e ∙ sym (count_of-only-no p x ys e)
+
+same_result : (op : Operation) (xs ys : List Row) → SameRows xs ys → SameRows (result_of op xs) (result_of op ys)
+same_result (Insert rows) xs ys same = λ x. refl
+same_result (Change P g r) xs ys same = r xs ys same
+same_result (Compact pick) xs ys same = λ x. refl
+
+-- an operation looks at the bag alone
+same_operated : (op : Operation) (xs ys : List Row) → SameRows xs ys → SameRows (operated op xs) (operated op ys)
+same_operated op xs ys same x =
+    let a = count_of-append x (others (scope_of op) xs) (result_of op (only (scope_of op) xs)) in
+    let b = count_of-append x (others (scope_of op) ys) (result_of op (only (scope_of op) ys)) in
+    let c = same_only (λ (y : Row). not (scope_of op y)) xs ys same x in
+    let d = same_result op (only (scope_of op) xs) (only (scope_of op) ys) (same_only (scope_of op) xs ys same) x in
+    omega arith
+
+-- where no row is missed, the operation is done on all
+none_missed : (op : Operation) (now after m : List Row) → SameRows m [] → SameRows after (operated op (without now m) ++ m) → SameRows after (operated op now)
+none_missed op now after m none result x =
+    let all : SameRows (without now m) now = λ y. let a = count_of-without y now m in let b = none y in omega arith in
+    let a = result x in
+    let b = count_of-append x (operated op (without now m)) m in
+    let c = same_operated op (without now m) now all x in
+    let d = none x in
+    omega arith
+
+operation_is : (script : Tag → Option Statement) (ps : List Put) (v : ℕ) (by : Put) (statement : Statement) (op : Operation) → put_under ps (commit_text (suc v)) ≡ Some by → script by.tag ≡ Some statement → operation_of statement ≡ Some op
+    → operation_by (statement_of script (put_under ps (commit_text (suc v)))) ≡ Some op
+operation_is script ps v by statement op is_by is_statement is_op =
+    ap (λ (o : Option Put). operation_by (statement_of script o)) is_by ∙ ap operation_by is_statement ∙ is_op
+
+pub rows_are_folded : (script : Tag → Option Statement) (moments : List Moment) → VersionsAreSerial Serializable script moments → FirstIsEmpty moments → RowsAreFolded script moments
+rows_are_folded script moments serial empty zero small is = λ x. ap (λ (rows : List Row). count_of x rows) empty
+rows_are_folded script moments serial empty (suc v) small is =
+    let ps = history [] moments in
+    let s = serial v small is in
+    let rest = rows_are_folded script moments serial empty v (omega arith) s.previous in
+    let m = missed (scope_of s.op) (rows_at ps v) (rows_at ps s.read) in
+    let one = none_missed s.op (rows_at ps v) (rows_at ps (suc v)) m (s.serial).fits (s.serial).result in
+    let two = same_operated s.op (rows_at ps v) (folded script ps v) rest in
+    let is_op = operation_is script ps v s.by s.statement s.op s.is_by s.is_statement s.is_op in
+    λ x. one x ∙ two x ∙ ap (λ (o : Option Operation). count_of x (done_by o (folded script ps v))) (sym is_op)
+
+pub each_version_is_folded : EachVersionIsFolded
+each_version_is_folded limit script kepts replies moments legal run =
+    rows_are_folded script moments (each_version_is_serial Serializable limit script kepts replies moments legal run) (first_version_is_empty moments)
