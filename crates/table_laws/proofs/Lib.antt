@@ -12,4 +12,5 @@ pub mod Names
 pub mod Puts
 pub mod Journals
 pub mod Effects
+pub mod Tries
 pub mod Serial
