@@ -2,18 +2,23 @@
 use Rattle.std.proofs.Common.{◌≡◌, ◌≢◌, ◌⊎◌, inl, inr, ℕ, zero, suc, ◌+◌, ◌<◌, ◌≤◌, ◌^◌, ◌==◌, ◌&&◌, Bool, true, false, List, [], ◌∷◌, ◌++◌, length, get_or, refl, sym, ◌∙◌, ap, subst, arith}
 use Rattle.std.proofs.lemmas.List.{append-nil}
 use Rattle.std.proofs.lemmas.Option.{slice_get_within}
-use Rattle.std.specs.Prelude.{Option, Some, None, All, slice_get, option_and_then, if◌then◌else◌}
+use Rattle.std.proofs.lemmas.Bool.{lt-ltb}
+use Rattle.std.specs.List.{list_all}
+use Rattle.std.specs.Int.{w64}
+use Rattle.std.specs.Prelude.{Option, Some, None, All, slice_get, option_and_then, if◌then◌else◌, nat_lt, ℤ, pos, negsuc, FitsSigned}
 use Rattle.edge_api.specs.declared.call.JournalEntry.{JournalEntry}
 use Rattle.edge_api.specs.declared.call.Tag.{Tag}
 use Rattle.edge_api.specs.Journal.{Moment, IsLegal, entries_of}
 use Rattle.edge_api.specs.World.{Grows}
 use Rattle.row_base.specs.declared.row.Datum.{Datum}
+use Rattle.row_base.specs.declared.row.Datum.TheVariants as datum
 use Rattle.op_types.specs.declared.statement.Statement.{Statement}
 use Rattle.op_types.specs.declared.statement.Statement.TheVariants.{Table, Insert, Select}
 use Rattle.op_types.specs.declared.statement.TableSpec.{TableSpec}
 use Rattle.op_types.specs.declared.reply.Reply.{Reply}
 use Rattle.table_rules.specs.Told.{IsTag}
-use Rattle.line_texts.specs.Texts.{text_of_rows, rows_of_text}
+use Rattle.line_texts.specs.Numbers.{fits}
+use Rattle.line_texts.specs.Texts.{text_of_rows, rows_of_text, is_long, is_long_row}
 use Rattle.line_texts.specs.Laws.{RowsReadBack}
 use Rattle.call_phases.specs.Phases.{Entries}
 use Rattle.txn_machine.specs.Answered.{Answered}
@@ -23,8 +28,8 @@ use Rattle.actor_core.proofs.Owners.{own-append, own_among, same_tag-refl}
 use Rattle.actor_core.proofs.Pieces.{Told}
 use Rattle.sessions.specs.Session.{AllTagged, AllAnswered, AnsweredTo, Stops, plans_from}
 use Rattle.table_laws.specs.Runs as laws
-use Rattle.table_laws.specs.Laws.{EachVersionIsSerial, EachStatementCommitsOnce, FirstVersionIsEmpty}
-use Rattle.session_runs.specs.Run.{Program, IsPlain, AllReplied, IsLawful, IsSerial, Runs, scripts_of, counted, statement_of}
+use Rattle.table_laws.specs.Laws.{EachVersionIsSerial, EachStatementCommitsOnce, FirstVersionIsEmpty, EachCommitLands, EachReplyCommitted, EachReplyRead}
+use Rattle.session_runs.specs.Run.{Program, IsPlain, IsLong, IsLongRow, AllReplied, IsLawful, IsSerial, Runs, scripts_of, counted, statement_of, reply_of}
 use Rattle.session_runs.proofs.Replies.{all_at}
 
 -- tags of one actor
@@ -77,10 +82,6 @@ answered_at actor limit k (st ∷ sts) part (r ∷ rs) (inr h) t is (suc j) at =
     let theirs : own t part ≡ own t h.1 = ap (own t) h.2 ∙ own-append t h.0 h.1 ∙ ap (λ (l : Entries). l ++ own t h.1) first in
     subst (λ (l : Entries). laws.IsAnsweredPart limit t None (slice_get sts j) l (slice_get rs j)) (sym theirs) (answered_at actor limit (k + 1) sts h.1 rs h.5 t is j (omega (arith, at)))
 
--- the reply of a tag
-abbrev replies_of : List (List Reply) → Tag → Option Reply
-replies_of replies tag = option_and_then (λ rs. counted rs tag.statement) (slice_get replies tag.actor)
-
 -- the two crates' lists of a statement's entries
 own_is : (t : Tag) (es : Entries) → laws.own t es ≡ own t es
 own_is t [] = refl
@@ -109,9 +110,9 @@ module _ (limit : ℕ) (scripts : List (List Statement)) (part : Entries) (repli
       none_some x e = cc
   by_actor t (Some sts) at (Some rs) to = counted_at t.actor limit sts (of_actor t.actor part) rs (not_killed limit t.actor sts (of_actor t.actor part) rs (all.each t.actor sts rs at to)) t refl t.statement refl
 
-  pub each_answered : laws.IsAnswered limit (statement_of scripts) (λ t. None) (replies_of replies) part
+  pub each_answered : laws.IsAnswered limit (statement_of scripts) (λ t. None) (reply_of replies) part
   each_answered t =
-      subst (λ (l : Entries). laws.IsAnsweredPart limit t None (statement_of scripts t) l (replies_of replies t)) (sym (own_is t part ∙ own_among t part))
+      subst (λ (l : Entries). laws.IsAnsweredPart limit t None (statement_of scripts t) l (reply_of replies t)) (sym (own_is t part ∙ own_among t part))
       (by_actor t (slice_get scripts t.actor) refl (slice_get replies t.actor) refl)
 
 -- where a tag's statement stands
@@ -145,19 +146,47 @@ plain_of spec sessions zero j sts st plain at there = only j (subst (λ (l : Lis
     only (suc j) e = cc
 plain_of spec sessions (suc i) j sts st plain at there = all_at IsPlain sts j st (all_at (λ s. All IsPlain s) sessions i sts plain at) there
 
+-- structural rows are those that their text gives back
+long_fits : (n : ℤ) → FitsSigned w64 n → fits n ≡ true
+long_fits (pos n) h = lt-ltb n (2 ^ 63) h.sfits
+long_fits (negsuc n) h = lt-ltb n (2 ^ 63) h.sfits
+
+long_is : (d : Datum) → IsLong d → is_long d ≡ true
+long_is (datum.Long n) h = long_fits n h
+long_is datum.Null h = absurd h
+long_is (datum.Integer n) h = absurd h
+long_is (datum.Boolean b) h = absurd h
+long_is (datum.Text t) h = absurd h
+long_is (datum.Date n) h = absurd h
+
+all_true : {A : Type 0} (P : A → Type 0) (test : A → Bool) → ((x : A) → P x → test x ≡ true) → (xs : List A) → All P xs → list_all test xs ≡ true
+all_true P test each [] h = refl
+all_true P test each (x ∷ xs) h =
+    let first = each x (h 0 x (omega arith)) in
+    let rest = all_true P test each xs (λ k d lt. h (suc k) d (omega (arith, lt))) in
+    ap (λ (b : Bool). b && list_all test xs) first ∙ rest
+
+long_row : (row : List Datum) → IsLongRow row → is_long_row row ≡ true
+long_row row h =
+    let some : nat_lt 0 (length row) ≡ true = lt-ltb 0 (length row) h.0 in
+    ap (λ (b : Bool). b && list_all is_long row) some ∙ all_true IsLong is_long long_is row h.1
+
+long_rows : (rows : List (List Datum)) → All IsLongRow rows → list_all is_long_row rows ≡ true
+long_rows rows h = all_true IsLongRow is_long_row long_row rows h
+
 grown_is : (before after : Told) (part journal : Entries) → before ≡ Some [] → after ≡ Some journal → Grows before part after → part ≡ journal
 grown_is None after part journal is now h = cc
 grown_is (Some old) after part journal is now h =
     let none = some_same old [] is in
     sym (ap (λ (l : Entries). l ++ part) none) ∙ some_same (old ++ part) journal (sym h ∙ now)
 
-pub is_serial : EachVersionIsSerial → EachStatementCommitsOnce → FirstVersionIsEmpty → RowsReadBack → (p : Program) (before after : Told) (replies : List (List Reply)) → p.limit ≤ 1000000 → length p.sessions ≤ 64
-    → All (λ s. length s ≤ 4096) p.sessions → Runs p before after replies → IsSerial p before after
+pub is_serial : EachVersionIsSerial → EachStatementCommitsOnce → FirstVersionIsEmpty → EachCommitLands → EachReplyCommitted → EachReplyRead → RowsReadBack → (p : Program) (before after : Told) (replies : List (List Reply)) → p.limit ≤ 1000000 → length p.sessions ≤ 64
+    → All (λ s. length s ≤ 4096) p.sessions → All (λ s. All IsPlain s) p.sessions → Runs p before after replies → IsSerial p before after replies
 unfolding Runs IsSerial
-is_serial serial once empty back p before after replies small few short runs is_before plain journal is_after moments legal are =
+is_serial serial once empty lands committed read back p before after replies small few short plain runs is_before journal is_after moments legal are =
     let scripts = scripts_of p in
     let part_is = grown_is before after runs.0 journal is_before is_after runs.1 in
-    let answered = subst (λ (l : Entries). laws.IsAnswered p.limit (statement_of scripts) (λ t. None) (replies_of replies) l) (part_is ∙ sym are) (each_answered p.limit scripts runs.0 replies runs.2) in
+    let answered = subst (λ (l : Entries). laws.IsAnswered p.limit (statement_of scripts) (λ t. None) (reply_of replies) l) (part_is ∙ sym are) (each_answered p.limit scripts runs.0 replies runs.2) in
     let tags : (t : Tag) (st : Statement) → statement_of scripts t ≡ Some st → IsTag t = λ t st h.
     let f = found scripts t st h in
     let actor = slice_get_within scripts t.actor f.sts f.at in
@@ -167,10 +196,13 @@ is_serial serial once empty back p before after replies small few short runs is_
     (omega (arith, actor, few), omega (arith, place, most, is)) in
     let faithful : (t : Tag) (rows : List (List Datum)) → statement_of scripts t ≡ Some (Insert rows) → rows_of_text (text_of_rows rows) ≡ Some rows = λ t rows h.
     let f = found scripts t (Insert rows) h in
-    back rows (plain_of p.table p.sessions t.actor f.place f.sts (Insert rows) plain f.at f.there) in
-    let run : laws.IsRun p.limit (statement_of scripts) (λ t. None) (replies_of replies) (entries_of moments) = record { answered = answered; kept = λ t. tt; limited = omega (arith, small); tags = tags; faithful = faithful } in
+    back rows (long_rows rows (plain_of p.table p.sessions t.actor f.place f.sts (Insert rows) plain f.at f.there)) in
+    let run : laws.IsRun p.limit (statement_of scripts) (λ t. None) (reply_of replies) (entries_of moments) = record { answered = answered; kept = λ t. tt; limited = omega (arith, small); tags = tags; faithful = faithful } in
     record {
-      serial = λ level. serial level p.limit (statement_of scripts) (λ t. None) (replies_of replies) moments legal run;
-      once = once p.limit (statement_of scripts) (λ t. None) (replies_of replies) moments legal run;
+      serial = λ level. serial level p.limit (statement_of scripts) (λ t. None) (reply_of replies) moments legal run;
+      once = once p.limit (statement_of scripts) (λ t. None) (reply_of replies) moments legal run;
       empty = empty moments;
+      lands = lands p.limit (statement_of scripts) (λ t. None) (reply_of replies) moments legal run;
+      committed = committed p.limit (statement_of scripts) (λ t. None) (reply_of replies) moments legal run;
+      read = read p.limit (statement_of scripts) (λ t. None) (reply_of replies) moments legal run;
     }

@@ -33,7 +33,7 @@ feeds_remain : (a b : Session) (es : List Event) (rest : Entries) (all : List Re
 feeds_remain a b [] rest all same h = subst (λ (x : Session). Remains x rest all) (sym same) h
 feeds_remain a b (e ∷ es) rest all fed h =
     let later = feeds_remain fed.0 b es rest all fed.2 h in
-    let both = fed.1.leads (entries_of_events es ++ rest) all later in
+    let both = fed.1.leads.leads (entries_of_events es ++ rest) all later in
     subst (λ (l : Entries). Remains a l all) (sym (ap (λ (l : Entries). l ++ rest) (entries-append (e ∷ []) es) ∙ append_assoc (entries_of_events (e ∷ [])) (entries_of_events es) rest)) both
 
 -- nothing remains of one that is done

@@ -1,17 +1,17 @@
 -- What a run of a script's sessions over a store says.
-use Rattle.std.specs.Prelude.{◌≡◌, ◌<◌, ◌+◌, ℕ, zero, suc, Bool, true, List, [], ◌∷◌, Option, Some, None, All, length, slice_get, option_and_then}
-use Rattle.std.specs.List.{list_all}
+use Rattle.std.specs.Prelude.{◌≡◌, ◌<◌, ◌+◌, ℕ, zero, suc, List, [], ◌∷◌, Option, Some, None, All, length, slice_get, option_and_then, FitsSigned}
+use Rattle.std.specs.Int.{w64}
 use Rattle.edge_api.specs.declared.call.JournalEntry.{JournalEntry}
 use Rattle.edge_api.specs.declared.call.Tag.{Tag}
 use Rattle.edge_api.specs.Actor.{Moves}
 use Rattle.edge_api.specs.Journal.{Moment, IsLegal, entries_of}
 use Rattle.edge_api.specs.World.{Grows}
 use Rattle.row_base.specs.declared.row.Datum.{Datum}
+use Rattle.row_base.specs.declared.row.Datum.TheVariants as datum
 use Rattle.op_types.specs.declared.statement.Statement.{Statement}
 use Rattle.op_types.specs.declared.statement.Statement.TheVariants.{Table, Insert, Select}
 use Rattle.op_types.specs.declared.statement.TableSpec.{TableSpec}
 use Rattle.op_types.specs.declared.reply.Reply.{Reply}
-use Rattle.line_texts.specs.Texts.{is_long_row}
 use Rattle.actor_core.specs.declared.piece.Till.TheVariants.{End}
 use Rattle.actor_core.specs.declared.schedule.Item.{Item}
 use Rattle.actor_core.specs.Entries.{of_actor}
@@ -20,7 +20,7 @@ use Rattle.actor_core.specs.Schedule.{FollowsSchedule}
 use Rattle.sessions.specs.declared.session.Session.{Session}
 use Rattle.sessions.specs.Session.{plans_from, AnsweredTo, Remains, IsReady, Goes, place_now}
 use Rattle.table_laws.specs.Conflicts.{Level}
-use Rattle.table_laws.specs.Laws.{VersionsAreSerial, CommitsOnce, FirstIsEmpty}
+use Rattle.table_laws.specs.Laws.{VersionsAreSerial, CommitsOnce, FirstIsEmpty, CommitsLand, RepliesCommitted, RepliesRead}
 
 -- what runs: the table that is made first, by actor 0, then the sessions' statements in the order of the items
 pub record Program : Type 0 where
@@ -29,10 +29,23 @@ pub record Program : Type 0 where
   pub limit : ℕ
   pub items : List Item
 
--- each inserted row is one or more numbers
+-- a number of 64 bits
+abbrev pub IsLong : Datum → Type 0
+IsLong (datum.Long n) = FitsSigned w64 n
+IsLong datum.Null = ⊥
+IsLong (datum.Integer n) = ⊥
+IsLong (datum.Boolean b) = ⊥
+IsLong (datum.Text t) = ⊥
+IsLong (datum.Date n) = ⊥
+
+-- one number or more
+abbrev pub IsLongRow : List Datum → Type 0
+IsLongRow row = (0 < length row) × All IsLong row
+
+-- each inserted row is one number or more
 abbrev pub IsPlain : Statement → Type 0
 IsPlain (Table spec) = Unit {0}
-IsPlain (Insert rows) = list_all is_long_row rows ≡ true
+IsPlain (Insert rows) = All IsLongRow rows
 IsPlain Select = Unit {0}
 
 -- the statements of each actor, by its number: actor 0 makes the table, and the sessions are 1, 2, and so on
@@ -47,6 +60,10 @@ counted xs (suc k) = slice_get xs k
 -- the statement of a tag: that of its number, counted from 1, of its actor
 abbrev pub statement_of : List (List Statement) → Tag → Option Statement
 statement_of scripts tag = option_and_then (λ statements. counted statements tag.statement) (slice_get scripts tag.actor)
+
+-- the reply of a tag: that of its statement's number, of its actor
+abbrev pub reply_of : List (List Reply) → Tag → Option Reply
+reply_of replies tag = option_and_then (λ given. counted given tag.statement) (slice_get replies tag.actor)
 
 -- Each actor's statements are answered in order by the entries of its number, and no further actor makes any
 pub record AllReplied (limit : ℕ) (scripts : List (List Statement)) (part : List JournalEntry) (replies : List (List Reply)) : Type 0 where
@@ -86,14 +103,17 @@ pub record InItsOrder (p : Program) (before after : Option (List JournalEntry)) 
 unfoldable pub FollowsItems : Program → Option (List JournalEntry) → Option (List JournalEntry) → Type 0
 FollowsItems p before after = InItsOrder p before after
 
--- each version follows from the one before at both levels, no statement commits twice, and version 0 has no rows
-pub record IsLawful (scripts : List (List Statement)) (moments : List Moment) : Type 0 where
+-- Each version follows from the one before at both levels, no statement commits twice, and version 0 has no rows. Each commit above version 0 was put at
+-- each version above the one that was read, and lost only to other statements. Replies of commits and of rows say what was committed and what was read
+pub record IsLawful (scripts : List (List Statement)) (replies : List (List Reply)) (moments : List Moment) : Type 0 where
   pub serial : (level : Level) → VersionsAreSerial level (statement_of scripts) moments
   pub once : CommitsOnce moments
   pub empty : FirstIsEmpty moments
+  pub lands : CommitsLand moments
+  pub committed : RepliesCommitted (statement_of scripts) (reply_of replies) moments
+  pub read : RepliesRead (statement_of scripts) (reply_of replies) moments
 
--- from an empty journal on, where each inserted row is one or more numbers: so is every legal completion of the journal
-unfoldable pub IsSerial : Program → Option (List JournalEntry) → Option (List JournalEntry) → Type 0
-IsSerial p before after =
-    before ≡ Some [] → All (λ statements. All IsPlain statements) p.sessions → (journal : List JournalEntry) → after ≡ Some journal
-    → (moments : List Moment) → IsLegal [] 0 moments → entries_of moments ≡ journal → IsLawful (scripts_of p) moments
+-- from an empty journal on, every legal completion of the journal is lawful
+unfoldable pub IsSerial : Program → Option (List JournalEntry) → Option (List JournalEntry) → List (List Reply) → Type 0
+IsSerial p before after replies =
+    before ≡ Some [] → (journal : List JournalEntry) → after ≡ Some journal → (moments : List Moment) → IsLegal [] 0 moments → entries_of moments ≡ journal → IsLawful (scripts_of p) replies moments

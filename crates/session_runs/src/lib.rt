@@ -99,10 +99,11 @@ pub fn run_program<W: World>(
     requires few { limit ≤ 1000000 }
     requires sessions { length sessions.items ≤ 64 }
     requires statements { All (λ s. length s.items ≤ 4096) sessions.items }
+    requires plain { All (λ s. All IsPlain s.items) sessions.items }
     requires items { All (λ i. (0 < i.actor) × (i.actor ≤ length sessions.items)) items.now }
     ensures runs { IfOk result (λ replies. Runs (record { table = table; sessions = map (λ s. s.items) sessions.items; limit = limit; items = items.now }) (W.journal world.old) (W.journal world.new) replies.items) }
     ensures follows { OnOk result (FollowsItems (record { table = table; sessions = map (λ s. s.items) sessions.items; limit = limit; items = items.now }) (W.journal world.old) (W.journal world.new)) }
-    ensures serial { OnOk result (IsSerial (record { table = table; sessions = map (λ s. s.items) sessions.items; limit = limit; items = items.now }) (W.journal world.old) (W.journal world.new)) }
+    ensures serial { IfOk result (λ replies. IsSerial (record { table = table; sessions = map (λ s. s.items) sessions.items; limit = limit; items = items.now }) (W.journal world.old) (W.journal world.new) replies.items) }
     ensures none { OnErr result (W.journal world.new ≡ W.journal world.old) }
 {
     let mut replies = Vec::with_capacity(alloc, sessions.len() + 1)?;

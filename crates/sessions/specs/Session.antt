@@ -1,19 +1,19 @@
 -- A session: statements one after another under one actor's number.
-use Rattle.std.specs.Prelude.{◌≡◌, ◌⊎◌, Bool, true, false, ◌<◌, ◌≤◌, ℕ, ◌+◌, ◌*◌, length, List, [], ◌∷◌, ◌++◌, Option, Some, None, vec_capacity}
+use Rattle.std.specs.Prelude.{◌≡◌, ◌≢◌, ◌⊎◌, ◌↔◌, Bool, true, false, ◌<◌, ◌≤◌, ℕ, ◌+◌, ◌*◌, length, List, [], ◌∷◌, ◌++◌, Option, Some, None, vec_capacity, IfSome}
 use Rattle.edge_api.specs.declared.call.Call.{Call}
 use Rattle.edge_api.specs.declared.call.Tag.{Tag}
 use Rattle.edge_api.specs.declared.actor.Stage.{Stage as Place}
 use Rattle.edge_api.specs.declared.actor.Stage.TheVariants as place
 use Rattle.edge_api.specs.declared.actor.Fed.{Fed}
 use Rattle.edge_api.specs.declared.actor.Fed.TheVariants as fed
-use Rattle.edge_api.specs.Actor.{Event, entries_of_events}
+use Rattle.edge_api.specs.Actor.{Event, Made, Refused, entries_of_events}
 use Rattle.op_types.specs.declared.reply.Reply.{Reply}
 use Rattle.op_types.specs.declared.reply.Reply.TheVariants.{Killed}
 use Rattle.op_types.specs.declared.statement.Statement.{Statement}
 use Rattle.call_phases.specs.Phases.{Entries}
 use Rattle.txn_machine.specs.Answered.{Answered}
 use Rattle.txn_machine.specs.Machine.{Rest, left_of}
-use Rattle.txn_machine.specs.Place.{place_of}
+use Rattle.txn_machine.specs.Place.{place_of, IsCallAt}
 use Rattle.txn_machine.specs.Txn as txn
 use Rattle.txn_machine.specs.declared.txn.Txn.{Txn}
 use Rattle.sessions.specs.declared.session.Session.{Session}
@@ -87,14 +87,34 @@ abbrev pub place_now : Option Txn → Place
 place_now None = place.Done
 place_now (Some t) = place_of t.stage
 
--- an event leads from one session to the other: with its entry in front, what remains of the new one is what remains of the old one
-abbrev pub Goes : Session → Event → Session → Type 0
-Goes old event new = (es : Entries) (all : List Reply) → Remains new es all → Remains old (entries_of_events (event ∷ []) ++ es) all
+-- the entry is of the statement under way, and its call is that of the place: the first of a statement reads the clock, and an attempt puts a commit
+abbrev pub IsEntryOf : Option Txn → Event → Type 0
+IsEntryOf None (Made e) = ⊥
+IsEntryOf (Some t) (Made e) = (e.tag ≡ t.plan.tag) × IsCallAt (place_of t.stage) e.call
+IsEntryOf now Refused = Unit {0}
+
+-- another statement is under way than before
+abbrev pub IsFurther : Option Txn → Option Txn → Type 0
+IsFurther None new = ⊥
+IsFurther (Some t) None = ⊥
+IsFurther (Some t) (Some u) = t.plan.tag ≢ u.plan.tag
+
+-- An event leads from one session to the other: its entry is the one of the old place, and the new one stands between two statements exactly where a
+-- further one is to make its first call. With the entry in front, what remains of the new one is what remains of the old one
+pub record Goes (old : Session) (event : Event) (new : Session) : Type 0 where
+  pub entry : IsEntryOf old.current event
+  pub between : (place_now new.current ≡ place.Between) ↔ IsFurther old.current new.current
+  pub leads : (es : Entries) (all : List Reply) → Remains new es all → Remains old (entries_of_events (event ∷ []) ++ es) all
 
 -- a statement is under way and makes a call next, or all are done
 abbrev pub IsReadyNow : Option Txn → ℕ → List Statement → Type 0
 IsReadyNow None actor later = later ≡ []
 IsReadyNow (Some t) actor later = txn.IsReady t × (t.plan.tag.actor ≡ actor) × (0 < left_of t.plan t.stage)
+
+-- the statement under way has the number before that of the next one, and has no more calls left than a new one
+abbrev pub IsCounted : Option Txn → ℕ → Type 0
+IsCounted None next = Unit {0}
+IsCounted (Some t) next = (t.plan.tag.statement + 1 ≡ next) × (left_of t.plan t.stage ≤ 3 * t.plan.limit + 2097200)
 
 -- how many statements are under way
 abbrev pub count_now : Option Txn → ℕ
@@ -126,6 +146,7 @@ pub record IsSettled (s : Session) : Type 0 where
   pub limit : IsLimit s.limit
   pub room : length s.replies.items + count_now s.current + length s.later.items ≤ vec_capacity s.replies
   pub numbers : s.next + length s.later.items < 4294967296
+  pub counted : IsCounted s.current s.next
 
 -- the next call is made ready, and may be answered
 pub record IsReady (s : Session) : Type 0 where
@@ -167,3 +188,22 @@ pub record Started (p : Numbered) (t : Txn) : Type 0 where
 abbrev pub Begins : List Numbered → List Numbered → Option Txn → Type 0
 Begins old new None = (old ≡ []) × (new ≡ [])
 Begins old new (Some t) = (p : Numbered) × (old ≡ p ∷ new) × Started p t
+
+-- a statement with the number before the next one, not below the first: it is done already, or is to make its first call
+pub record IsNew (first next : ℕ) (t : Txn) : Type 0 where
+  pub number : t.plan.tag.statement + 1 ≡ next
+  pub further : first ≤ t.plan.tag.statement
+  pub most : left_of t.plan t.stage ≤ 3 * t.plan.limit + 2097200
+  pub stands : IfSome t.pending (λ call. place_of t.stage ≡ place.Between)
+
+-- the same statement goes on, or one of a greater number that is to make its first call
+abbrev pub GoesOnBy : Txn → Txn → Type 0
+GoesOnBy old new = (new ≡ old) ⊎ ((old.plan.tag.statement < new.plan.tag.statement) × IfSome new.pending (λ call. place_of new.stage ≡ place.Between))
+
+abbrev pub GoesOn : Txn → Option Txn → Type 0
+GoesOn old None = Unit {0}
+GoesOn old (Some new) = (new ≡ old) ⊎ ((old.plan.tag.statement < new.plan.tag.statement) × (place_of new.stage ≡ place.Between))
+
+-- what was under way still is, or nothing is
+abbrev pub StaysOrEnds : Option Txn → Option Txn → Type 0
+StaysOrEnds old new = (new ≡ old) ⊎ (new ≡ None)

@@ -4,7 +4,7 @@ ghost use Rattle.call_phases.specs.Phases.{Entries};
 ghost use Rattle.op_types.specs.declared.reply.Reply.{Reply as AReply};
 ghost use Rattle.txn_machine.specs.Machine.{left_of};
 ghost use Rattle.txn_machine.specs.Txn as txn_specs;
-ghost use Rattle.sessions.specs.Session.{plans_from, later_plans, AnsweredTo, RestBy, Stops, Remains, RemainsAfter, HasCalls, count_of, Goes, IsLimit, IsReadyNow, count_now, IsSettled, IsReady, Asks, left_now, left, place_now, Begins};
+ghost use Rattle.sessions.specs.Session.{plans_from, later_plans, AnsweredTo, RestBy, Stops, Remains, RemainsAfter, HasCalls, count_of, Goes, IsLimit, IsReadyNow, count_now, IsSettled, IsReady, Asks, left_now, left, place_now, Begins, IsCounted, IsNew, GoesOn, StaysOrEnds};
 
 use edge_api::{Actor, Fed, Stage as Place, Step, Tag};
 use op_types::{Reply, Statement};
@@ -44,6 +44,7 @@ fn begin(
     ensures ready { IfSome result txn_specs.IsReady }
     ensures actor { IfSome result (λ t. t.plan.tag.actor ≡ actor) }
     ensures last { result ≡ None → later.new.items ≡ [] }
+    ensures fresh { IfSome result (IsNew next.old next.new) }
     ensures left { left_now result ≤ count_now result * (3 * limit + 2097201) }
 {
     let statement = later.pop_front()?;
@@ -98,6 +99,7 @@ impl Session {
         requires none { self.old.current ≡ None }
         requires room { length self.old.replies.items + count_now first + length self.old.later.items ≤ vec_capacity self.old.replies }
         requires numbers { self.old.next + length self.old.later.items < 4294967296 }
+        requires counted { IsCounted first self.old.next }
         ensures ready { IsReady self.new }
         ensures actor { self.new.actor ≡ self.old.actor }
         ensures starts { (es : Entries) (all : List AReply) → Remains self.new es all → (killed : Bool) × Stops self.old.kill (length es) killed × RestBy killed self.old.replies.items first (later_plans self.old) es all }
@@ -127,6 +129,7 @@ impl Session {
         requires { IsSettled self.old }
         ensures ready { IsReady self.new }
         ensures actor { self.new.actor ≡ self.old.actor }
+        ensures now { StaysOrEnds self.old.current self.new.current }
         ensures remains { (es : Entries) (all : List AReply) → Remains self.new es all → Remains self.old es all }
         ensures falls { left self.new ≤ left self.old }
     {
@@ -144,6 +147,7 @@ impl Session {
         requires calls { HasCalls self.old.kill }
         ensures ready { IsReady self.new }
         ensures actor { self.new.actor ≡ self.old.actor }
+        ensures now { StaysOrEnds self.old.current self.new.current }
         ensures remains { (es : Entries) (all : List AReply) → Remains self.new es all → RemainsAfter (if heard then 1 else 0) self.old es all }
         ensures falls { left self.new ≤ left self.old }
     {
@@ -172,6 +176,7 @@ impl Session {
         ensures numbers { self.new.next + length self.new.later.items < 4294967296 }
         ensures fewer { count_now result + length self.new.later.items ≡ length self.old.later.items }
         ensures last { result ≡ None → self.new.later.items ≡ [] }
+        ensures fresh { IfSome result (IsNew self.old.next self.new.next) }
         ensures left { left_now result ≤ count_now result * (3 * self.old.limit + 2097201) }
         ensures turns { (killed : Bool) (es : Entries) (all : List AReply) → RestBy killed self.new.replies.items result (later_plans self.new) es all → RestBy killed self.old.replies.items (Some done) (later_plans self.old) es all }
     {
@@ -193,7 +198,9 @@ impl Session {
         requires none { self.old.current ≡ None }
         requires room { length self.old.replies.items + 1 + length self.old.later.items ≤ vec_capacity self.old.replies }
         requires numbers { self.old.next + length self.old.later.items < 4294967296 }
+        requires counted { IsCounted (Some txn) self.old.next }
         ensures settled { IsSettled self.new }
+        ensures goes_on { GoesOn txn self.new.current }
         ensures actor { self.new.actor ≡ self.old.actor }
         ensures kill { self.new.kill ≡ self.old.kill }
         ensures settles { (killed : Bool) (es : Entries) (all : List AReply) → RestBy killed self.new.replies.items self.new.current (later_plans self.new) es all → RestBy killed self.old.replies.items (Some txn) (later_plans self.old) es all }

@@ -1,5 +1,5 @@
 -- What stands after a part of a journal in which each statement is answered.
-use Rattle.std.proofs.Common.{◌≡◌, ◌⊎◌, inl, inr, ℕ, suc, ◌<◌, ◌^◌, Bool, true, false, List, [], ◌∷◌, ◌++◌, refl, sym, ◌∙◌, ap, subst, arith}
+use Rattle.std.proofs.Common.{◌≡◌, ◌⊎◌, inl, inr, ℕ, suc, ◌+◌, ◌≤◌, ◌<◌, ◌^◌, Bool, true, false, List, [], ◌∷◌, ◌++◌, refl, sym, ◌∙◌, ap, subst, arith}
 use Rattle.std.proofs.lemmas.List.{append-nil, append_assoc}
 use Rattle.std.specs.Prelude.{Option, Some, None, if◌then◌else◌}
 use Rattle.std.specs.Str.{bytes_eq}
@@ -29,10 +29,11 @@ use Rattle.table_laws.specs.Operations.{Operation, operation_of}
 use Rattle.table_laws.specs.Effects as effects
 use Rattle.table_laws.specs.Conflicts.{Level}
 use Rattle.table_laws.specs.History.{Put, put_under, body_of, put_if_free, puts_of, if_done, puts_at, history}
-use Rattle.table_laws.specs.Runs.{same_tag, own, or_first, listed_by, told_by, first_given, GotIn, StoredIn}
-use Rattle.table_laws.proofs.Lawful.{Known, PutIn, NoPut, first_past, Knows, IsCommitOf, MayPut, IsFile, IsTable, IsCommit, LawfulBy, AllLawful}
+use Rattle.table_laws.specs.Runs.{same_tag, own, or_first, listed_by, told_by, version_put, with_version, versions_put, first_given, GotIn, StoredIn}
+use Rattle.table_laws.proofs.Lawful.{Known, PutIn, NoPut, first_past, Knows, versions_down, AllWon, IsCommitOf, MayPut, IsFile, IsTable, IsCommit, LawfulBy, AllLawful}
 use Rattle.table_laws.proofs.Known.{knows_more}
 use Rattle.table_laws.proofs.Phases.{same_put}
+use Rattle.table_laws.proofs.Statements.{commit_put, data_put}
 use Rattle.table_laws.proofs.Names.{same_file}
 use Rattle.table_laws.proofs.Puts.{or_else, body_at, put_under-push, object_at-with, same_tag-refl, same_tag-is}
 
@@ -88,6 +89,26 @@ put_more t e past n b a h = by (same_tag t e.tag)
 
 put_now : (e : JournalEntry) (past : Entries) (n b : List ℕ) → e.call ≡ PutNew n b → PutIn (own e.tag (e ∷ past)) n b e.answer
 put_now e past n b is = subst (λ (c : Bool). PutIn (if c then e ∷ own e.tag past else own e.tag past) n b e.answer) (sym (same_tag-refl e.tag)) (inl (is, refl))
+
+-- a statement's puts of commits, after an entry that is none of them
+none_more : (t : Tag) (e : JournalEntry) (past : Entries) → (e.tag ≡ t → version_put e.call ≡ None) → versions_put (own t (e ∷ past)) ≡ versions_put (own t past)
+none_more t e past none = by (same_tag t e.tag) refl
+  where
+    by : (c : Bool) → same_tag t e.tag ≡ c → versions_put (if c then e ∷ own t past else own t past) ≡ versions_put (own t past)
+    by true is = ap (λ (o : Option ℕ). with_version o (versions_put (own t past))) (none (sym (same_tag-is t e.tag is)))
+    by false is = refl
+
+-- after one of them
+one_more : (e : JournalEntry) (past : Entries) (v : ℕ) → version_put e.call ≡ Some v → versions_put (own e.tag (e ∷ past)) ≡ v ∷ versions_put (own e.tag past)
+one_more e past v is = ap (λ (c : Bool). versions_put (if c then e ∷ own e.tag past else own e.tag past)) (same_tag-refl e.tag) ∙ ap (λ (o : Option ℕ). with_version o (versions_put (own e.tag past))) is
+
+pub put_of_body : (o : Option Put) (b : List ℕ) → body_of o ≡ Some b → (q : Put) × (o ≡ Some q)
+put_of_body None b h = cc
+put_of_body (Some q) b h = (q, refl)
+
+-- a put that is in its place among more
+more_after : (ps : List Put) (p : Put) (earlier later rest : List Put) → ps ≡ earlier ++ p ∷ later → ps ++ rest ≡ earlier ++ p ∷ (later ++ rest)
+more_after ps p earlier later rest is = ap (λ (l : List Put). l ++ rest) is ∙ append_assoc earlier (p ∷ later) rest
 
 given_on : (a b : Option ℕ) (r : ℕ) → a ≡ Some r → or_first a b ≡ Some r
 given_on a b r is = ap (λ (o : Option ℕ). or_first o b) is
@@ -243,6 +264,13 @@ module _ (level : Level) (K : Tag → List ℕ → List ℕ → Type 0) (script 
     pub answer : Answer
     pub made : PutIn (own p.tag past) (commit_text (suc v)) p.body answer
     pub landed : answer ≡ Taken → ⊥
+    pub tries : ℕ
+    pub sum : read + tries ≡ suc v
+    pub puts : versions_put (own p.tag past) ≡ versions_down read tries
+    pub earlier : List Put
+    pub later : List Put
+    pub order : ps ≡ earlier ++ p ∷ later
+    pub won : (k : ℕ) → read ≤ k → k < v → (q : Put) × (put_under earlier (commit_text (suc k)) ≡ Some q)
 
   abbrev pub IsMade : Put → Type 0
   IsMade p = (spec : TableSpec) × (script p.tag ≡ Some (Table spec)) × (p.body ≡ text_of_columns (names_of spec.columns))
@@ -272,8 +300,8 @@ module _ (level : Level) (K : Tag → List ℕ → List ℕ → Type 0) (script 
   put_by_more : (ps qs : List Put) → ((n : List ℕ) (p : Put) → put_under ps n ≡ Some p → put_under qs n ≡ Some p) → (t : Tag) (n b : List ℕ) → IsPutBy ps t n b → IsPutBy qs t n b
   put_by_more ps qs more t n b h = record { put = h.put; is = more n h.put h.is; body = h.body; tag = h.tag }
 
-  commit_more : (past : Entries) (ps qs : List Put) (e : JournalEntry) (v : ℕ) (p : Put) → ((n b : List ℕ) → InPut ps n b → InPut qs n b) → Committed past ps v p → Committed (e ∷ past) qs v p
-  commit_more past ps qs e v p more k = record {
+  commit_more : (past : Entries) (ps qs rest : List Put) (e : JournalEntry) (v : ℕ) (p : Put) → qs ≡ ps ++ rest → ((n b : List ℕ) → InPut ps n b → InPut qs n b) → (e.tag ≡ p.tag → version_put e.call ≡ None) → Committed past ps v p → Committed (e ∷ past) qs v p
+  commit_more past ps qs rest e v p are more quiet k = record {
     statement = k.statement;
     is_statement = k.is_statement;
     op = k.op;
@@ -289,20 +317,28 @@ module _ (level : Level) (K : Tag → List ℕ → List ℕ → Type 0) (script 
     answer = k.answer;
     made = put_more p.tag e past _ _ _ k.made;
     landed = k.landed;
+    tries = k.tries;
+    sum = k.sum;
+    puts = none_more p.tag e past quiet ∙ k.puts;
+    earlier = k.earlier;
+    later = k.later ++ rest;
+    order = are ∙ more_after ps p k.earlier k.later rest k.order;
+    won = k.won;
   }
 
   -- an entry that puts nothing
   unchanged : (past : Entries) (os : Objects) (ps : List Put) (e : JournalEntry) → Stands past os ps
       → ((n b : List ℕ) → e.call ≡ Get n → e.answer ≡ Body b → InPut ps n b)
-      → ((n b : List ℕ) → e.call ≡ PutNew n b → e.answer ≡ Stored → ⊥) → Stands (e ∷ past) os ps
-  unchanged past os ps e s gets stores = record {
+      → ((n b : List ℕ) → e.call ≡ PutNew n b → e.answer ≡ Stored → ⊥)
+      → ((v : ℕ) (p : Put) → put_under ps (commit_text (suc v)) ≡ Some p → Committed past ps v p → e.tag ≡ p.tag → version_put e.call ≡ None) → Stands (e ∷ past) os ps
+  unchanged past os ps e s gets stores quiet = record {
     agree = s.agree;
     logs = s.logs;
     owned = λ t start q is h. let o = s.owned t start q is h in (o.0, put_more t e past _ _ _ o.1);
     got = λ n b h. elim h [ inl now ↦ gets n b now.0 now.1 | inr before ↦ s.got n b before ];
     stored = λ t n b h. elim (stored_now t e past n b h) [ inl now ↦ absurd (stores n b now.1 now.2) | inr before ↦ s.stored t n b before ];
     table = s.table;
-    commits = λ v p small h. commit_more past ps ps e v p (λ n b k. k) (s.commits v p small h);
+    commits = λ v p small h. let k = s.commits v p small h in commit_more past ps ps [] e v p (sym (append-nil ps)) (λ n b k. k) (quiet v p h k) k;
     single = s.single;
   }
 
@@ -318,6 +354,25 @@ module _ (level : Level) (K : Tag → List ℕ → List ℕ → Type 0) (script 
   new_table tag statement past name body by (IsFile start is fresh) h = absurd (data_is_no_commit tag start 0 0 (sym is ∙ h))
   new_table tag statement past name body by (IsTable spec is_table is text) h = (spec, by ∙ ap (λ (s : Statement). Some s) is_table, text)
   new_table tag statement past name body by (IsCommit k) h = let e : ◌≡◌ {A = ℕ} (suc k.version) 0 = commits_differ (suc k.version) 0 k.small (omega arith) (sym k.is ∙ h) in absurd (omega arith)
+
+  no_operation : (spec : TableSpec) (statement : Statement) (op : Operation) → Table spec ≡ statement → operation_of statement ≡ Some op → ⊥
+  no_operation spec statement op same is = let bad : operation_of (Table spec) ≡ Some op = ap operation_of same ∙ is in cc
+
+  -- a statement whose commit took effect puts no further one
+  module _ (past : Entries) (os : Objects) (ps : List Put) (s : Stands past os ps) (tag : Tag) (statement : Statement) (is_statement : script tag ≡ Some statement) (name body : List ℕ) where
+    not_lost : (v : ℕ) (q : Put) → put_under ps (commit_text (suc v)) ≡ Some q → Committed past ps v q → tag ≡ q.tag → IsCommitOf level (K tag) tag statement (own tag past) name body → ⊥
+    not_lost v q old there same k =
+        let made = subst (λ (t : Tag). PutIn (own t past) (commit_text (suc v)) q.body there.answer) (sym same) there.made in
+        elim (k.lost (suc v) q.body there.answer made) [
+          | inl was_taken ↦ there.landed was_taken
+          | inr other ↦ other.2 (sym (some_same q.body other.0 (sym (ap body_of old) ∙ s.got (commit_text (suc v)) other.0 (own_got tag past _ _ other.1))))
+        ]
+
+    quiet : MayPut level (K tag) tag statement (own tag past) name body → (v : ℕ) (q : Put) → put_under ps (commit_text (suc v)) ≡ Some q → Committed past ps v q → tag ≡ q.tag → version_put (PutNew name body) ≡ None
+    quiet (IsFile start is fresh) v q old there same = ap (λ (n : List ℕ). version_put (PutNew n body)) is ∙ data_put tag start body
+    quiet (IsTable spec is_table is text) v q old there same =
+        absurd (no_operation spec there.statement there.op (sym is_table ∙ some_same statement there.statement (sym is_statement ∙ ap script same ∙ there.is_statement)) there.is_op)
+    quiet (IsCommit k) v q old there same = absurd (not_lost v q old there same k)
 
   module _ (past : Entries) (os : Objects) (ps : List Put) (s : Stands past os ps)
       (tag : Tag) (name body : List ℕ) (answer : Answer) (clock : ℕ) (statement : Statement) (is_statement : script tag ≡ Some statement) (may : MayPut level (K tag) tag statement (own tag past) name body)
@@ -447,11 +502,21 @@ module _ (level : Level) (K : Tag → List ℕ → List ℕ → Type 0) (script 
           answer = answer;
           made = put_now the_entry past (commit_text (suc v)) body (ap (λ (n : List ℕ). PutNew n body) is);
           landed = not_taken;
+          tries = suc k.tries;
+          sum = let sum = k.sum in let version = two.1 in omega arith;
+          puts = one_more the_entry past (suc v) (ap (λ (n : List ℕ). version_put (PutNew n body)) is ∙ commit_put (suc v) body small)
+              ∙ ap (λ (l : List ℕ). suc v ∷ l) k.puts ∙ ap (λ (n : ℕ). n ∷ versions_down k.read k.tries) (let sum = k.sum in let version = two.1 in let n : suc v ≡ k.read + suc k.tries = omega arith in n);
+          earlier = ps;
+          later = [];
+          order = refl;
+          won = λ n from to.
+              let got = k.won n from (let version = two.1 in let below : n < v = to in omega arith) in
+              put_of_body (put_under ps (commit_text (suc n))) got.0 (s.got (commit_text (suc n)) got.0 (own_got tag past _ _ got.1));
         }
 
     add_commits : (v : ℕ) (q : Put) → suc v < 2 ^ 64 → put_under more (commit_text (suc v)) ≡ Some q → Committed (the_entry ∷ past) more v q
     add_commits v q small h = elim (which (commit_text (suc v)) q h) [
-      | inl old ↦ commit_more past ps more the_entry v q still (s.commits v q small old)
+      | inl old ↦ let k = s.commits v q small old in commit_more past ps more (the_put ∷ []) the_entry v q refl still (quiet past os ps s tag statement is_statement name body may v q old k) k
       | inr new ↦ subst (λ (p : Put). Committed (the_entry ∷ past) more v p) new.1 (this_commit v small new.0)
     ]
 
@@ -459,12 +524,7 @@ module _ (level : Level) (K : Tag → List ℕ → List ℕ → Type 0) (script 
     not_again : (v w : ℕ) (q : Put) → suc v < 2 ^ 64 → suc w < 2 ^ 64 → name ≡ commit_text (suc v) → put_under ps (commit_text (suc w)) ≡ Some q → tag ≡ q.tag → ⊥
     not_again v w q small also is old same =
         let k = (new_commit tag statement (own tag past) name body v small may is).0 in
-        let there = s.commits w q also old in
-        let made = subst (λ (t : Tag). PutIn (own t past) (commit_text (suc w)) q.body there.answer) (sym same) there.made in
-        elim (k.lost (suc w) q.body there.answer made) [
-          | inl was_taken ↦ there.landed was_taken
-          | inr other ↦ other.2 (sym (some_same q.body other.0 (sym (ap body_of old) ∙ s.got (commit_text (suc w)) other.0 (own_got tag past _ _ other.1))))
-        ]
+        not_lost past os ps s tag statement is_statement name body w q old (s.commits w q also old) same k
 
     add_single : (v w : ℕ) (p q : Put) → suc v < 2 ^ 64 → suc w < 2 ^ 64 → put_under more (commit_text (suc v)) ≡ Some p → put_under more (commit_text (suc w)) ≡ Some q → p.tag ≡ q.tag → v ≡ w
     add_single v w p q small also h k same = elim (which (commit_text (suc v)) p h) [
@@ -484,9 +544,10 @@ module _ (level : Level) (K : Tag → List ℕ → List ℕ → Type 0) (script 
   module _ (past : Entries) (os : Objects) (ps : List Put) (s : Stands past os ps) where
     -- nothing is put
     idle : (e : JournalEntry) (now : Objects) (new : List Put) → now ≡ os → new ≡ [] → ((n b : List ℕ) → e.call ≡ Get n → e.answer ≡ Body b → InPut ps n b)
-        → ((n b : List ℕ) → e.call ≡ PutNew n b → e.answer ≡ Stored → ⊥) → Stands (e ∷ past) now (ps ++ new)
-    idle e now new same none gets stores =
-        let here = unchanged past os ps e s gets stores in
+        → ((n b : List ℕ) → e.call ≡ PutNew n b → e.answer ≡ Stored → ⊥)
+        → ((v : ℕ) (p : Put) → put_under ps (commit_text (suc v)) ≡ Some p → Committed past ps v p → e.tag ≡ p.tag → version_put e.call ≡ None) → Stands (e ∷ past) now (ps ++ new)
+    idle e now new same none gets stores silent =
+        let here = unchanged past os ps e s gets stores silent in
         subst (λ (o : Objects). Stands (e ∷ past) o (ps ++ new)) (sym same)
         (subst (λ (q : List Put). Stands (e ∷ past) os q) (sym (ap (λ (q : List Put). ps ++ q) none ∙ append-nil ps)) here)
 
@@ -536,7 +597,7 @@ module _ (level : Level) (K : Tag → List ℕ → List ℕ → Type 0) (script 
       at_free : (a : Answer) (u : Bool) → object_at os name ≡ None → Answers a Stored → Next a u None
       at_free Stored u free right = added past os ps s tag name body Stored clock statement is_statement may free (λ h. cc)
       at_free Fault true free right = added past os ps s tag name body Fault clock statement is_statement may free (λ h. cc)
-      at_free Fault false free right = idle (entry_of Fault) os [] refl refl (λ n b h k. cc) (λ n b h k. cc)
+      at_free Fault false free right = idle (entry_of Fault) os [] refl refl (λ n b h k. cc) (λ n b h k. cc) (quiet past os ps s tag statement is_statement name body may)
       at_free (Body b) u free right = cc
       at_free Missing u free right = cc
       at_free Taken u free right = cc
@@ -546,7 +607,7 @@ module _ (level : Level) (K : Tag → List ℕ → List ℕ → Type 0) (script 
       at_free Waited u free right = cc
 
       at_there : (a : Answer) (u : Bool) (o : Object) → Answers a Taken → Next a u (Some o)
-      at_there a u o right = idle (entry_of a) (after_answer a u os os) (if_done a u []) (same_after a u os) (same_if_done a u) (λ n b h k. cc) (λ n b h k. not_stored a right k)
+      at_there a u o right = idle (entry_of a) (after_answer a u os os) (if_done a u []) (same_after a u os) (same_if_done a u) (λ n b h k. cc) (λ n b h k. not_stored a right k) (quiet past os ps s tag statement is_statement name body may)
 
       at_either : (a : Answer) (u : Bool) (o : Option Object) → object_at os name ≡ o → Answers a (stored o) → Next a u o
       at_either a u None is right = at_free a u is right
@@ -554,13 +615,13 @@ module _ (level : Level) (K : Tag → List ℕ → List ℕ → Type 0) (script 
 
     call_step : (tag : Tag) (call : Call) (a : Answer) (clock : ℕ) (u : Bool) (statement : Statement) → script tag ≡ Some statement → LawfulBy level (K tag) tag statement (own tag past) call → Answers a (answer_of os clock call)
         → Stands (record { tag = tag; call = call; answer = a } ∷ past) (after_answer a u os (effect_of os clock call)) (ps ++ if_done a u (puts_of os tag clock call))
-    call_step tag (Get name) a clock u statement is_statement lawful right = idle (record { tag = tag; call = Get name; answer = a }) (after_answer a u os os) (if_done a u []) (same_after a u os) (same_if_done a u) (get_shows name a right) (λ n b h k. cc)
+    call_step tag (Get name) a clock u statement is_statement lawful right = idle (record { tag = tag; call = Get name; answer = a }) (after_answer a u os os) (if_done a u []) (same_after a u os) (same_if_done a u) (get_shows name a right) (λ n b h k. cc) (λ v p h k is. refl)
     call_step tag (PutNew name body) a clock u statement is_statement lawful right = at_either tag name body clock statement is_statement lawful a u (object_at os name) refl right
     call_step tag (Replace name body) a clock u statement is_statement lawful right = absurd lawful
-    call_step tag (ListNames prefix) a clock u statement is_statement lawful right = idle (record { tag = tag; call = ListNames prefix; answer = a }) (after_answer a u os os) (if_done a u []) (same_after a u os) (same_if_done a u) (λ n b h k. cc) (λ n b h k. cc)
+    call_step tag (ListNames prefix) a clock u statement is_statement lawful right = idle (record { tag = tag; call = ListNames prefix; answer = a }) (after_answer a u os os) (if_done a u []) (same_after a u os) (same_if_done a u) (λ n b h k. cc) (λ n b h k. cc) (λ v p h k is. refl)
     call_step tag (Delete name) a clock u statement is_statement lawful right = absurd lawful
-    call_step tag Now a clock u statement is_statement lawful right = idle (record { tag = tag; call = Now; answer = a }) (after_answer a u os os) (if_done a u []) (same_after a u os) (same_if_done a u) (λ n b h k. cc) (λ n b h k. cc)
-    call_step tag (Wait time) a clock u statement is_statement lawful right = idle (record { tag = tag; call = Wait time; answer = a }) (after_answer a u os os) (if_done a u []) (same_after a u os) (same_if_done a u) (λ n b h k. cc) (λ n b h k. cc)
+    call_step tag Now a clock u statement is_statement lawful right = idle (record { tag = tag; call = Now; answer = a }) (after_answer a u os os) (if_done a u []) (same_after a u os) (same_if_done a u) (λ n b h k. cc) (λ n b h k. cc) (λ v p h k is. refl)
+    call_step tag (Wait time) a clock u statement is_statement lawful right = idle (record { tag = tag; call = Wait time; answer = a }) (after_answer a u os os) (if_done a u []) (same_after a u os) (same_if_done a u) (λ n b h k. cc) (λ n b h k. cc) (λ v p h k is. refl)
 
   -- an object that is no commit may go
   pub gone : (past : Entries) (os now : Objects) (ps : List Put) (name : List ℕ) → Stands past os ps → ((v : ℕ) → name ≡ commit_text v → ⊥)

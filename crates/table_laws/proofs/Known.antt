@@ -1,13 +1,15 @@
 -- What is known stays known.
-use Rattle.std.proofs.Common.{ℕ, zero, suc, List, [], ◌∷◌}
-use Rattle.std.specs.Prelude.{Option}
+use Rattle.std.proofs.Common.{◌≡◌, ℕ, zero, suc, List, [], ◌∷◌, ◌++◌}
+use Rattle.std.specs.Prelude.{Option, Some}
 use Rattle.edge_api.specs.declared.call.Tag.{Tag}
+use Rattle.row_base.specs.declared.row.ScannedFile.{ScannedFile}
 use Rattle.snapshot_replay.specs.Table.{Commit, Snapshot}
+use Rattle.txn_machine.specs.Texts.{read_file}
 use Rattle.table_laws.specs.Bags.{Row}
 use Rattle.table_laws.specs.Operations.{Operation}
 use Rattle.table_laws.specs.Conflicts.{Level, FileClash}
 use Rattle.table_laws.specs.Runs.{LoadedTo}
-use Rattle.table_laws.proofs.Lawful.{AllGot, Cleared, Knows}
+use Rattle.table_laws.proofs.Lawful.{AllGot, AllScanned, Cleared, Knows}
 
 module _ (G H : List ℕ → List ℕ → Type 0) (more : (n b : List ℕ) → G n b → H n b) where
   pub loaded_more : (v : ℕ) (s : Snapshot) → LoadedTo G v s → LoadedTo H v s
@@ -18,8 +20,21 @@ module _ (G H : List ℕ → List ℕ → Type 0) (more : (n b : List ℕ) → G
   got_more view [] h = tt
   got_more view (p ∷ ps) h = ((h.0.0, more p h.0.0 h.0.1, h.0.2), got_more view ps h.1)
 
+  pub scanned_more : (ps : List (List ℕ)) (fs : List ScannedFile) → AllScanned G ps fs → AllScanned H ps fs
+  scanned_more [] [] h = tt
+  scanned_more [] (f ∷ fs) h = absurd h
+  scanned_more (p ∷ ps) [] h = absurd h
+  scanned_more (p ∷ ps) (f ∷ fs) h = ((h.0.0, more p h.0.0 h.0.1, h.0.2), scanned_more ps fs h.1)
+
   pub cleared_more : (judge : Commit → Option FileClash) (k : ℕ) → Cleared G judge k → Cleared H judge k
   cleared_more judge k h = (h.0, more _ _ h.1, h.2)
+
+-- one file more
+pub scanned_push : (G : List ℕ → List ℕ → Type 0) (ps : List (List ℕ)) (fs : List ScannedFile) (p : List ℕ) (f : ScannedFile) → AllScanned G ps fs → (body : List ℕ) × G p body × (read_file body ≡ Some f.rows) → AllScanned G (ps ++ p ∷ []) (fs ++ f ∷ [])
+scanned_push G [] [] p f h one = (one, tt)
+scanned_push G [] (g ∷ fs) p f h one = absurd h
+scanned_push G (q ∷ ps) [] p f h one = absurd h
+scanned_push G (q ∷ ps) (g ∷ fs) p f h one = (h.0, scanned_push G ps fs p f h.1 one)
 
 pub knows_more : (level : Level) (tag : Tag) (op : Operation) (start read : ℕ) (s : Snapshot) (view : List ℕ → List Row) (G S H T : List ℕ → List ℕ → Type 0) (version : ℕ)
     → ((n b : List ℕ) → G n b → H n b) → ((n b : List ℕ) → S n b → T n b)

@@ -1,11 +1,12 @@
 -- What a statement's entries say of the entries before them. Entries are listed the newest first here.
-use Rattle.std.proofs.Common.{◌≡◌, ◌⊎◌, ℕ, suc, ◌≤◌, ◌<◌, ◌^◌, List, [], ◌∷◌}
+use Rattle.std.proofs.Common.{◌≡◌, ◌⊎◌, ℕ, zero, suc, ◌+◌, ◌≤◌, ◌<◌, ◌^◌, List, [], ◌∷◌, length}
 use Rattle.std.specs.Prelude.{Option, Some, None}
 use Rattle.edge_api.specs.declared.call.Tag.{Tag}
 use Rattle.edge_api.specs.declared.call.Call.{Call}
 use Rattle.edge_api.specs.declared.call.Call.TheVariants.{Get, PutNew, Put as Replace, List as ListNames, Delete, Now, Wait}
 use Rattle.edge_api.specs.declared.call.Answer.{Answer}
 use Rattle.edge_api.specs.declared.call.Answer.TheVariants.{Taken}
+use Rattle.row_base.specs.declared.row.ScannedFile.{ScannedFile}
 use Rattle.op_types.specs.declared.statement.Statement.{Statement}
 use Rattle.op_types.specs.declared.statement.TableSpec.{TableSpec}
 use Rattle.op_types.specs.declared.statement.Statement.TheVariants.{Table}
@@ -16,12 +17,12 @@ use Rattle.line_texts.specs.Texts.{text_of_columns}
 use Rattle.snapshot_replay.specs.Table.{Add, Commit, Snapshot, paths_of}
 use Rattle.call_phases.specs.Phases.{Entries}
 use Rattle.txn_machine.specs.Texts.{read_commit, read_file}
-use Rattle.txn_machine.specs.Answered.{names_of}
+use Rattle.txn_machine.specs.Answered.{names_of, rows_of_files, Sorts}
 use Rattle.table_laws.specs.Bags.{Row}
 use Rattle.table_laws.specs.Operations.{Operation, operation_of, scope_of, got_files, removed_files}
 use Rattle.table_laws.specs.Effects.{may_match, new_rows, effect_of}
 use Rattle.table_laws.specs.Conflicts.{Level, FileClash, first_clash}
-use Rattle.table_laws.specs.Runs.{or_first, listed_by, told_by, GotIn, StoredIn, LoadedTo}
+use Rattle.table_laws.specs.Runs.{or_first, listed_by, told_by, versions_put, GotIn, StoredIn, LoadedTo}
 
 -- a statement's session or its own entries got it or stored it
 abbrev pub Known : (List ℕ → List ℕ → Type 0) → Entries → List ℕ → List ℕ → Type 0
@@ -57,6 +58,13 @@ module _ (G : List ℕ → List ℕ → Type 0) where
   AllGot view [] = Unit {0}
   AllGot view (p ∷ ps) = ((body : List ℕ) × G p body × (read_file body ≡ Some (view p))) × AllGot view ps
 
+  -- the rows of each file are those of a body that is known under its path
+  abbrev pub AllScanned : List (List ℕ) → List ScannedFile → Type 0
+  AllScanned [] [] = Unit {0}
+  AllScanned [] (f ∷ fs) = ⊥
+  AllScanned (p ∷ ps) [] = ⊥
+  AllScanned (p ∷ ps) (f ∷ fs) = ((body : List ℕ) × G p body × (read_file body ≡ Some f.rows)) × AllScanned ps fs
+
   -- the commit of version k + 1 is known, and doesn't clash as far as it can be read
   abbrev pub Cleared : (Commit → Option FileClash) → ℕ → Type 0
   Cleared judge k = (text : List ℕ) × G (commit_text (suc k)) text × ((t : Commit) → read_commit (suc k) text ≡ Some t → judge t ≡ None)
@@ -70,11 +78,45 @@ pub record Knows (level : Level) (tag : Tag) (op : Operation) (start read : ℕ)
   pub previous : (text : List ℕ) × G (commit_text version) text
   pub clear : (k : ℕ) → read ≤ k → k < version → Cleared G (judge_of level op view s.files) k
 
+-- so many versions above the one that was read, the newest first
+abbrev pub versions_down : ℕ → ℕ → List ℕ
+versions_down read zero = []
+versions_down read (suc n) = (read + suc n) ∷ versions_down read n
+
+-- the commits of the versions above the one that was read were got
+abbrev pub AllWon : Entries → ℕ → ℕ → Type 0
+AllWon past read version = (k : ℕ) → read ≤ k → k < version → (text : List ℕ) × GotIn past (commit_text (suc k)) text
+
+-- a statement committed a version: its put was answered as stored, or its commit was read back
+pub record ClaimsCommit (tag : Tag) (past : Entries) (version read attempts : ℕ) : Type 0 where
+  pub sum : read + attempts ≡ version
+  pub above : 0 < attempts
+  pub small : version < 2 ^ 64
+  pub listed : first_past listed_by past ≡ Some read
+  pub op : Operation
+  pub start : ℕ
+  pub s : Snapshot
+  pub view : List ℕ → List Row
+  pub body : List ℕ
+  pub says : read_commit version body ≡ Some (effect_of tag start op view s.files)
+  pub there : StoredIn past (commit_text version) body ⊎ GotIn past (commit_text version) body
+
+-- a statement loaded a version, and got all its files
+pub record ClaimsRows (K : List ℕ → List ℕ → Type 0) (past : Entries) (version : ℕ) (given : List Row) (read live : ℕ) : Type 0 where
+  pub listed : first_past listed_by past ≡ Some version
+  pub s : Snapshot
+  pub loaded : LoadedTo (Known K past) (suc version) s
+  pub got : List ScannedFile
+  pub scanned : AllScanned (Known K past) (paths_of s.files) got
+  pub sorts : Sorts (rows_of_files got) given
+  pub files_read : read ≡ length got
+  pub files_live : live ≡ length s.files
+
 -- what a reply claims of all entries of its statement
 abbrev pub ClaimOf : (List ℕ → List ℕ → Type 0) → Tag → Statement → Entries → Reply → Type 0
 ClaimOf K tag statement past Created = Unit {0}
-ClaimOf K tag statement past (Committed version read attempts checkpoint) = Unit {0}
-ClaimOf K tag statement past (Rows version rows files_read files_live) = Unit {0}
+ClaimOf K tag statement past (Committed version read attempts checkpoint) = ClaimsCommit tag past version read attempts
+ClaimOf K tag statement past (Rows version rows files_read files_live) = ClaimsRows K past version rows files_read files_live
 ClaimOf K tag statement past Killed = Unit {0}
 ClaimOf K tag statement past (Refused r) = Unit {0}
 
@@ -98,6 +140,10 @@ pub record IsCommitOf (level : Level) (K : List ℕ → List ℕ → Type 0) (ta
   pub listed : first_past listed_by past ≡ Some read
   pub knows : Knows level tag op start read s view (Known K past) (StoredIn past) version
   pub lost : AllLost past
+  pub tries : ℕ
+  pub sum : read + tries ≡ version
+  pub puts : versions_put past ≡ versions_down read tries
+  pub won : AllWon past read version
 
 -- a statement's data file, the commit that makes a table, or another commit
 pub data MayPut (level : Level) (K : List ℕ → List ℕ → Type 0) (tag : Tag) (statement : Statement) (past : Entries) (name body : List ℕ) : Type 0 where

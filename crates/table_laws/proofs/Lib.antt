@@ -12,5 +12,6 @@ pub mod Names
 pub mod Puts
 pub mod Journals
 pub mod Effects
+pub mod Tries
 pub mod Serial
 pub mod Folded

@@ -184,7 +184,7 @@ module _ (level : Level) (K : List ℕ → List ℕ → Type 0) (tag : Tag) (sta
       (clocked : (lost : ℕ) (past : Entries) (e : JournalEntry) → e.call ≡ Now → P lost past → P lost (e ∷ past))
       (puts : (lost : ℕ) (past : Entries) → terms.first + lost < 2 ^ 64 → P lost past → MayPut level K tag statement past (commit_text (terms.first + lost)) j.text)
       (loses : (lost : ℕ) (past : Entries) (e f : JournalEntry) (body winner : List ℕ) → e.call ≡ PutNew (commit_text (terms.first + lost)) j.text → f.call ≡ Get (commit_text (terms.first + lost)) → f.answer ≡ Body body
-      → (e.answer ≡ Taken) ⊎ (body ≡ j.text → ⊥) → verdict_of j body ≡ verdict.Clear winner → P lost past → P (suc lost) (f ∷ e ∷ past))
+      → (e.answer ≡ Taken) ⊎ (body ≡ j.text → ⊥) → verdict_of j body ≡ verdict.Clear winner → terms.first + lost < 2 ^ 64 → P lost past → P (suc lost) (f ∷ e ∷ past))
       (wins : (lost : ℕ) (past : Entries) (e : JournalEntry) (l : Landed) → e.call ≡ PutNew (commit_text (terms.first + lost)) j.text → e.answer ≡ Stored → l.version ≡ terms.first + lost → l.attempts ≡ suc lost
       → terms.first + lost < 2 ^ 64 → P lost past → ClaimOf K tag statement (e ∷ past) (landed l))
       (finds : (lost : ℕ) (past : Entries) (e f : JournalEntry) (l : Landed) → e.call ≡ PutNew (commit_text (terms.first + lost)) j.text → f.call ≡ Get (commit_text (terms.first + lost)) → f.answer ≡ Body j.text → l.version ≡ terms.first + lost → l.attempts ≡ suc lost
@@ -214,7 +214,7 @@ module _ (level : Level) (K : List ℕ → List ℕ → Type 0) (tag : Tag) (sta
         (λ e rest put is on. at_get _ _ (commit_text (terms.first + lost)) reply _ (e ∷ past) rest on (λ body f rest' got answer on'. back e f body rest' put got answer (bytes_eq body j.text) refl on'))
         (λ e rest put is on. replied (landed l) reply (e ∷ past) rest (wins lost past e l put is version attempts small p) on)
         (λ e rest put is on. at_get _ _ (commit_text (terms.first + lost)) reply _ (e ∷ past) rest on (λ body f rest' got answer on'.
-        judged reply (terms.first + lost) body (again body) (f ∷ e ∷ past) rest' on' (λ winner clear on''. k body (f ∷ e ∷ past) rest' (loses lost past e f body winner put got answer (inl is) clear p) on'')))
+        judged reply (terms.first + lost) body (again body) (f ∷ e ∷ past) rest' on' (λ winner clear on''. k body (f ∷ e ∷ past) rest' (loses lost past e f body winner put got answer (inl is) clear small p) on'')))
       where
         back : (e f : JournalEntry) (body : List ℕ) (rest : Entries) → e.call ≡ PutNew (commit_text (terms.first + lost)) j.text → f.call ≡ Get (commit_text (terms.first + lost)) → f.answer ≡ Body body
             → (b : Bool) → bytes_eq body j.text ≡ b → MatchBool b (lands reply j l rest) (Judged Bodies Judges terms (open_end reply) (fails reply) (lands reply) (terms.first + lost) j body (again body) rest)
@@ -222,7 +222,7 @@ module _ (level : Level) (K : List ℕ → List ℕ → Type 0) (tag : Tag) (sta
         back e f body rest put got answer true same on =
             replied (landed l) reply (f ∷ e ∷ past) rest (finds lost past e f l put got (answer ∙ ap (λ (b : List ℕ). Body b) ((bytes_eq-Decides body j.text).0 same)) version attempts small p) on
         back e f body rest put got answer false apart on =
-            judged reply (terms.first + lost) body (again body) (f ∷ e ∷ past) rest on (λ winner clear on'. k body (f ∷ e ∷ past) rest (loses lost past e f body winner put got answer (inr (differ apart)) clear p) on')
+            judged reply (terms.first + lost) body (again body) (f ∷ e ∷ past) rest on (λ winner clear on'. k body (f ∷ e ∷ past) rest (loses lost past e f body winner put got answer (inr (differ apart)) clear small p) on')
           where
             differ : bytes_eq body j.text ≡ false → body ≡ j.text → ⊥
             differ apart same = let bad : true ≡ false = sym ((bytes_eq-Decides body j.text).1 same) ∙ apart in cc

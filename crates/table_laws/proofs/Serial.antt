@@ -1,36 +1,40 @@
 -- Each committed version follows from the one before.
-use Rattle.std.proofs.Common.{◌≡◌, ◌⊎◌, inl, inr, ℕ, zero, suc, ◌≤◌, ◌<◌, ◌^◌, Bool, true, false, List, [], ◌∷◌, refl, sym, ◌∙◌, ap, subst, arith}
+use Rattle.std.proofs.Common.{◌≡◌, ◌⊎◌, inl, inr, ℕ, zero, suc, ◌+◌, ◌-◌, ◌≤◌, ◌<◌, ◌^◌, Bool, true, false, List, [], ◌∷◌, ◌++◌, length, refl, sym, ◌∙◌, ap, subst, arith}
 use Rattle.std.specs.Prelude.{Option, Some, None, IsSome, if◌then◌else◌, option_map, option_and_then}
 use Rattle.std.specs.Str.{bytes_eq}
 use Rattle.std.proofs.lemmas.Slice.Eq.{bytes_eq-Decides}
 use Rattle.edge_api.specs.declared.call.Tag.{Tag}
 use Rattle.edge_api.specs.Journal.{Objects, Moment, IsLegal, entries_of}
+use Rattle.row_base.specs.declared.row.ScannedFile.{ScannedFile}
 use Rattle.op_types.specs.declared.statement.Statement.{Statement}
 use Rattle.op_types.specs.declared.statement.Statement.TheVariants.{Table}
 use Rattle.op_types.specs.declared.statement.TableSpec.{TableSpec}
 use Rattle.op_types.specs.declared.reply.Reply.{Reply}
+use Rattle.op_types.specs.declared.reply.Reply.TheVariants.{Committed as CommittedReply, Rows}
 use Rattle.table_rules.specs.Names.{commit_text, data_text}
 use Rattle.table_rules.specs.Told.{IsTag}
 use Rattle.line_texts.specs.Texts.{columns_of_text}
-use Rattle.snapshot_replay.specs.Table.{Add, Action, Commit, Snapshot, without_path, reconciled, table_commit, paths_of, snapshot_at}
+use Rattle.snapshot_replay.specs.Table.{Add, Action, Removes, Adds, Commit, Snapshot, without_path, reconciled, table_commit, paths_of, snapshot_at}
 use Rattle.call_phases.specs.Phases.{Entries}
 use Rattle.txn_machine.specs.Texts.{read_commit}
-use Rattle.txn_machine.specs.Answered.{Kept}
+use Rattle.txn_machine.specs.Answered.{Kept, Sorts, rows_of_files}
+use Rattle.txn_machine.proofs.OpenEnds.{length-paths_of}
 use Rattle.table_laws.specs.Bags.{Row, count_of}
 use Rattle.table_laws.specs.Operations.{Operation, operation_of, inserted, got_files, removed_files}
-use Rattle.table_laws.specs.Files.{live_by, rows_in, lines_of}
+use Rattle.table_laws.specs.Files.{live_by, rows_in, rows_under, lines_of}
 use Rattle.table_laws.specs.Effects.{may_match, new_rows, new_file, effect_of}
 use Rattle.table_laws.specs.Conflicts.{Level, Serializable}
 use Rattle.table_laws.specs.History.{Put, put_under, body_of, or_nothing, commit_at, rows_of, history, IsCommitted}
-use Rattle.table_laws.specs.Runs.{own, listed_by, SessionKnows, IsAnsweredPart, IsRun}
-use Rattle.table_laws.specs.Laws.{statement_of, operation_by, inserted_by, appended, Step, EachVersionIsSerial, FirstVersionIsEmpty, EachStatementCommitsOnce}
+use Rattle.table_laws.specs.Runs.{own, listed_by, versions_put, GotIn, StoredIn, SessionKnows, IsAnsweredPart, IsRun}
+use Rattle.table_laws.specs.Laws.{statement_of, operation_by, inserted_by, appended, Step, versions_from, IsWonBefore, Lands, HasCommitted, HasRead, EachVersionIsSerial, FirstVersionIsEmpty, EachStatementCommitsOnce, EachCommitLands, EachReplyCommitted, EachReplyRead}
 use Rattle.table_laws.proofs.Bags.{count_of-append}
 use Rattle.table_laws.proofs.Files.{times, is_one, times-placed, times-without_other, times-without_same}
 use Rattle.table_laws.proofs.Winners.{Landed, serial}
-use Rattle.table_laws.proofs.Lawful.{AllGot, Knows, judge_of}
-use Rattle.table_laws.proofs.Known.{knows_more}
+use Rattle.table_laws.proofs.Lawful.{Known, AllGot, AllScanned, Knows, ClaimsCommit, ClaimsRows, ClaimOf, judge_of}
+use Rattle.table_laws.proofs.Known.{loaded_more, knows_more, scanned_more}
+use Rattle.table_laws.proofs.Tries.{put_in_order, put_under-front}
 use Rattle.table_laws.proofs.Names.{same_file}
-use Rattle.table_laws.proofs.Journals.{InPut, Sure, Stands, Committed, End, Keeps, KeepsPart, backwards, nothing_stands, whole, given_is, own_got, got_at, stored_at, some_same}
+use Rattle.table_laws.proofs.Journals.{InPut, Sure, Stands, Committed, End, Keeps, KeepsPart, backwards, nothing_stands, whole, given_is, own_got, got_at, stored_at, put_of_body, some_same}
 use Rattle.table_laws.proofs.Effects.{effect_balance, file_is, commit_is, loaded_is, same_new, same_effect, judge_same}
 use Rattle.table_laws.proofs.Statements.{answered_lawful}
 
@@ -70,6 +74,35 @@ empty_first ps = by (body_of (put_under ps (commit_text 0)))
     by : (o : Option (List ℕ)) → (or_nothing (option_and_then (read_commit 0) o)).lines ≡ []
     by None = refl
     by (Some text) = read (columns_of_text text)
+
+same_commit : (a b : Commit) → Some a ≡ Some b → a ≡ b
+same_commit a b h = cc
+
+same_path : (a b : List ℕ) → Some a ≡ Some b → a ≡ b
+same_path a b h = cc
+
+-- the first path that is added
+abbrev first_added : List Action → Option (List ℕ)
+first_added [] = None
+first_added (Removes p ∷ ls) = first_added ls
+first_added (Adds a ∷ ls) = Some a.path
+
+added_is : (ps : List (List ℕ)) (a : Add) → first_added (lines_of ps (a ∷ [])) ≡ Some a.path
+added_is [] a = refl
+added_is (p ∷ ps) a = added_is ps a
+
+-- the files that were got hold the rows under their paths
+scanned_rows : (ps : List Put) (paths : List (List ℕ)) (fs : List ScannedFile) → AllScanned (InPut ps) paths fs → rows_of_files fs ≡ rows_under (rows_of ps) paths
+scanned_rows ps [] [] h = refl
+scanned_rows ps [] (f ∷ fs) h = absurd h
+scanned_rows ps (p ∷ paths) [] h = absurd h
+scanned_rows ps (p ∷ paths) (f ∷ fs) h = ap (λ (l : List Row). l ++ rows_of_files fs) (file_is ps p h.0.0 f.rows h.0.1 h.0.2) ∙ ap (λ (l : List Row). rows_of ps p ++ l) (scanned_rows ps paths fs h.1)
+
+scanned_long : (G : List ℕ → List ℕ → Type 0) (paths : List (List ℕ)) (fs : List ScannedFile) → AllScanned G paths fs → length fs ≡ length paths
+scanned_long G [] [] h = refl
+scanned_long G [] (f ∷ fs) h = absurd h
+scanned_long G (p ∷ paths) [] h = absurd h
+scanned_long G (p ∷ paths) (f ∷ fs) h = ap (λ (n : ℕ). suc n) (scanned_long G paths fs h.1)
 
 module _ (level : Level) (K : Tag → List ℕ → List ℕ → Type 0) (script : Tag → Option Statement) (replies : Tag → Option Reply) (tags : (tag : Tag) (statement : Statement) → script tag ≡ Some statement → IsTag tag)
     (past : Entries) (os : Objects) (ps : List Put) (s : Stands level K script replies tags past os ps) (known : (t : Tag) (n b : List ℕ) → K t n b → InPut ps n b) where
@@ -219,6 +252,95 @@ module _ (level : Level) (K : Tag → List ℕ → List ℕ → Type 0) (script 
               v lt;
         }
 
+    -- a version between was committed before, and not by the same statement
+    won_at : (v : ℕ) (p : Put) → suc v < 2 ^ 64 → put_under ps (commit_text (suc v)) ≡ Some p → (k : Committed level K script replies tags past ps v p) → (n : ℕ) → k.read < n → n < suc v → IsWonBefore ps p n
+    won_at v p small is k zero from to = absurd (omega (arith, from))
+    won_at v p small is k (suc n) from to =
+        let below : n < v = omega (arith, to) in
+        let q = k.won n (omega (arith, from)) below in
+        let there : put_under ps (commit_text (suc n)) ≡ Some q.0 = ap (λ (l : List Put). put_under l (commit_text (suc n))) k.order ∙ put_under-front k.earlier (p ∷ k.later) (commit_text (suc n)) q.0 q.1 in
+        record {
+          winner = q.0;
+          earlier = k.earlier;
+          later = k.later;
+          order = k.order;
+          there = q.1;
+          other = λ same. let e = s.single n v q.0 p (omega (arith, below, small)) small there is same in absurd (omega (arith, e, below));
+        }
+
+    -- the statement of a commit put it at each version above the one that it read
+    pub lands : (v : ℕ) (p : Put) → suc v < 2 ^ 64 → put_under ps (commit_text (suc v)) ≡ Some p → Lands journal ps (suc v) p
+    lands v p small is =
+        let k = s.commits v p small is in
+        let le = (knows v p k).below in
+        let sum = k.sum in
+        let count : k.tries ≡ suc v - k.read = omega (arith, sum) in
+        record {
+          read = k.read;
+          is_read = sym (given_is listed_by p.tag past journal is_past) ∙ k.listed;
+          below = omega (arith, le);
+          puts = put_in_order p.tag past journal k.read k.tries is_past k.puts ∙ ap (λ (n : ℕ). versions_from (k.read + 1) n) count;
+          lost = won_at v p small is k;
+        }
+
+    -- a commit whose text names a statement's file is this statement's
+    same_owner : (t : Tag) (st : Statement) → script t ≡ Some st → (w : ℕ) (q : Put) → suc w < 2 ^ 64 → put_under ps (commit_text (suc w)) ≡ Some q
+        → (start : ℕ) (op : Operation) (view : List ℕ → List Row) (fs : List Add) → read_commit (suc w) q.body ≡ Some (effect_of t start op view fs) → q.tag ≡ t
+    same_owner t st is_st w q small is start op view fs says =
+        let k = s.commits w q small is in
+        let theirs = effect_of q.tag k.start k.op k.view (k.s).files in
+        let mine = effect_of t start op view fs in
+        let same : theirs ≡ mine = same_commit theirs mine (sym k.says ∙ says) in
+        let names : Some (data_text q.tag k.start 0) ≡ Some (data_text t start 0) =
+        sym (added_is (paths_of (removed_files k.view may_match k.op (k.s).files)) (new_file q.tag k.start)) ∙ ap (λ (x : Commit). first_added x.lines) same
+        ∙ added_is (paths_of (removed_files view may_match op fs)) (new_file t start) in
+        same_file q.tag t k.start start (tags q.tag k.statement k.is_statement) (tags t st is_st) (same_path (data_text q.tag k.start 0) (data_text t start 0) names)
+
+    -- what the reply of a commit claims
+    pub has_committed : (t : Tag) (st : Statement) → script t ≡ Some st → (version read attempts : ℕ) → ClaimsCommit t (own t past) version read attempts → HasCommitted journal ps t version read attempts
+    has_committed t st is_st version read attempts c = record { is_read = sym (given_is listed_by t past journal is_past) ∙ c.listed; counted = c.sum; above = c.above; by = found.0; is_by = found.1; is_tag = found.2 }
+      where
+        got_back : (w : ℕ) → version ≡ suc w → (q : Put) → put_under ps (commit_text version) ≡ Some q → q.body ≡ c.body → q.tag ≡ t
+        got_back w same q is body =
+            let small : suc w < 2 ^ 64 = subst (λ (n : ℕ). n < 2 ^ 64) same c.small in
+            let there : put_under ps (commit_text (suc w)) ≡ Some q = ap (λ (n : ℕ). put_under ps (commit_text n)) (sym same) ∙ is in
+            let says : read_commit (suc w) q.body ≡ Some (effect_of t c.start c.op c.view (c.s).files) = ap (read_commit (suc w)) body ∙ ap (λ (n : ℕ). read_commit n c.body) (sym same) ∙ c.says in
+            same_owner t st is_st w q small there c.start c.op c.view (c.s).files says
+
+        by_there : StoredIn (own t past) (commit_text version) c.body ⊎ GotIn (own t past) (commit_text version) c.body → (q : Put) × (put_under ps (commit_text version) ≡ Some q) × (q.tag ≡ t)
+        by_there (inl kept) = let b = s.stored t (commit_text version) c.body kept in (b.put, b.is, b.tag)
+        by_there (inr got) =
+            let put = s.got (commit_text version) c.body (own_got t past (commit_text version) c.body got) in
+            let q = put_of_body (put_under ps (commit_text version)) c.body put in
+            let sum = c.sum in
+            let above = c.above in
+            let next : version ≡ suc (version - 1) = omega (arith, sum, above) in
+            (q.0, q.1, got_back (version - 1) next q.0 q.1 (some_same q.0.body c.body (sym (ap body_of q.1) ∙ put)))
+
+        found : (q : Put) × (put_under ps (commit_text version) ≡ Some q) × (q.tag ≡ t)
+        found = by_there c.there
+
+    -- what the reply of rows claims
+    pub has_read : (t : Tag) (version : ℕ) (given : List Row) (read live_files : ℕ) → ClaimsRows (K t) (own t past) version given read live_files → HasRead journal ps t version given read live_files
+    has_read t version given read live_files c =
+        let more : (n b : List ℕ) → Known (K t) (own t past) n b → InPut ps n b = shown t in
+        let loaded = loaded_more (Known (K t) (own t past)) (InPut ps) more (suc version) c.s c.loaded in
+        let scanned = scanned_more (Known (K t) (own t past)) (InPut ps) more (paths_of (c.s).files) c.got c.scanned in
+        let base : (c.s).files ≡ live version = ap (λ (x : Snapshot). x.files) (loaded_is ps version c.s loaded) in
+        let rows : rows_of_files c.got ≡ rows_in (rows_of ps) (live version) = scanned_rows ps (paths_of (c.s).files) c.got scanned ∙ ap (λ (fs : List Add). rows_in (rows_of ps) fs) base in
+        let long : length c.got ≡ length (live version) = scanned_long (InPut ps) (paths_of (c.s).files) c.got scanned ∙ length-paths_of (c.s).files ∙ ap (λ (fs : List Add). length fs) base in
+        record {
+          is_read = sym (given_is listed_by t past journal is_past) ∙ c.listed;
+          committed = some_of_body (put_under ps (commit_text version)) loaded.1 loaded.4;
+          rows = subst (λ (l : List Row). Sorts l given) rows c.sorts;
+          files_read = c.files_read ∙ long;
+          files_live = c.files_live ∙ ap (λ (fs : List Add). length fs) base;
+        }
+      where
+        shown : (t : Tag) (n b : List ℕ) → Known (K t) (own t past) n b → InPut ps n b
+        shown t n b (inl before) = known t n b before
+        shown t n b (inr got) = s.got n b (own_got t past n b got)
+
   no_operation : (spec : TableSpec) (statement : Statement) (op : Operation) → Some (Table spec) ≡ Some statement → operation_of statement ≡ Some op → ⊥
   no_operation spec statement op h is = let bad : operation_of (Table spec) ≡ Some op = ap operation_of (some_same (Table spec) statement h) ∙ is in cc
 
@@ -264,6 +386,12 @@ module _ (level : Level) (limit : ℕ) (script : Tag → Option Statement) (kept
     | inr kept ↦ let p = (e.stands).stored k.0 n b (stored_at k.0 e.past journal n b e.is kept) in ap body_of p.is ∙ ap (λ (b : List ℕ). Some b) p.body
   ]
 
+  -- what the reply of a statement claims holds at the end
+  pub claims : (e : at_end) (t : Tag) (st : Statement) (reply : Reply) → script t ≡ Some st → replies t ≡ Some reply → ClaimOf (K t) t st (own t e.past) reply
+  claims e t st reply is_st is_reply =
+      subst (λ (r : Option Reply). KeepsPart level K script replies run.tags t (Some st) r (own t e.past) []) is_reply
+      (subst (λ (o : Option Statement). KeepsPart level K script replies run.tags t o (replies t) (own t e.past) []) is_st (e.keeps t))
+
 pub each_version_is_serial : EachVersionIsSerial
 each_version_is_serial level limit script kepts replies moments legal run v small is =
     let e = run_end level limit script kepts replies moments legal run in
@@ -276,3 +404,20 @@ each_statement_commits_once limit script kepts replies moments legal run v w p q
 
 pub first_version_is_empty : FirstVersionIsEmpty
 first_version_is_empty moments = ap (λ (ls : List Action). rows_in (rows_of (history [] moments)) (reconciled [] ls)) (empty_first (history [] moments))
+
+pub each_commit_lands : EachCommitLands
+each_commit_lands limit script kepts replies moments legal run v p small is =
+    let e = run_end Serializable limit script kepts replies moments legal run in
+    lands Serializable (SessionKnows (entries_of moments)) script replies run.tags e.past e.os (history [] moments) e.stands (known_at Serializable limit script kepts replies moments legal run e) (entries_of moments) e.is v p small is
+
+pub each_reply_committed : EachReplyCommitted
+each_reply_committed limit script kepts replies moments legal run t st version read attempts checkpoint is_st is_reply =
+    let e = run_end Serializable limit script kepts replies moments legal run in
+    has_committed Serializable (SessionKnows (entries_of moments)) script replies run.tags e.past e.os (history [] moments) e.stands (known_at Serializable limit script kepts replies moments legal run e) (entries_of moments) e.is t st is_st
+    version read attempts (claims Serializable limit script kepts replies moments legal run e t st (CommittedReply version read attempts checkpoint) is_st is_reply)
+
+pub each_reply_read : EachReplyRead
+each_reply_read limit script kepts replies moments legal run t st version given read live_files is_st is_reply =
+    let e = run_end Serializable limit script kepts replies moments legal run in
+    has_read Serializable (SessionKnows (entries_of moments)) script replies run.tags e.past e.os (history [] moments) e.stands (known_at Serializable limit script kepts replies moments legal run e) (entries_of moments) e.is t
+    version given read live_files (claims Serializable limit script kepts replies moments legal run e t st (Rows version given read live_files) is_st is_reply)

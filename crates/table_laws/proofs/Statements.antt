@@ -1,12 +1,14 @@
 -- An answered statement's entries are lawful.
 use Rattle.std.proofs.Common.{◌≡◌, ◌⊎◌, inl, inr, ℕ, suc, ◌+◌, ◌≤◌, ◌<◌, ◌^◌, Bool, true, false, List, [], ◌∷◌, ◌++◌, length, refl, sym, ◌∙◌, ap, subst, arith}
 use Rattle.std.specs.Prelude.{MatchBool, MatchOption, ◌-◌, Option, Some, None, nat_lt, if◌then◌else◌}
+use Rattle.std.proofs.lemmas.List.{append-nil, append_assoc}
 use Rattle.std.proofs.lemmas.Slice.Eq.{bytes_eq-Decides}
 use Rattle.std.proofs.lemmas.Bool.Decides.{nat_tests}
 use Rattle.edge_api.specs.declared.call.Tag.{Tag}
 use Rattle.edge_api.specs.declared.call.Call.{Call}
-use Rattle.edge_api.specs.declared.call.Call.TheVariants.{Get, List as ListNames, Now}
+use Rattle.edge_api.specs.declared.call.Call.TheVariants.{Get, PutNew, Put as Replace, List as ListNames, Delete, Now, Wait}
 use Rattle.edge_api.specs.declared.call.Answer.{Answer}
+use Rattle.edge_api.specs.declared.call.Answer.TheVariants.{Body}
 use Rattle.edge_api.specs.declared.call.Listed.{Listed}
 use Rattle.edge_api.specs.declared.call.JournalEntry.{JournalEntry}
 use Rattle.row_base.specs.declared.row.ScannedFile.{ScannedFile}
@@ -18,14 +20,14 @@ use Rattle.op_types.specs.declared.refusal.Feature.TheVariants.{Versions}
 use Rattle.op_types.specs.declared.reply.Reply.{Reply}
 use Rattle.op_types.specs.declared.reply.Reply.TheVariants.{Created, Committed, Rows, Killed, Refused}
 use Rattle.table_rules.specs.Names.{log_prefix, commit_text, data_text}
-use Rattle.table_rules.proofs.Names.{data_is_no_commit}
+use Rattle.table_rules.proofs.Names.{commit_is_read, data_is_outside, data_is_no_commit}
 use Rattle.line_texts.specs.Texts.{text_of_columns, text_of_add, text_of_rows, rows_of_text}
 use Rattle.snapshot_replay.specs.Table.{Commit, Snapshot, no_table, paths_of}
 use Rattle.call_phases.specs.Phases.{Entries}
 use Rattle.committer.specs.declared.judge.Verdict.TheVariants as verdict
 use Rattle.txn_machine.specs.declared.judge.CommitJudge.{CommitJudge}
 use Rattle.txn_machine.specs.Judging.{verdict_of}
-use Rattle.txn_machine.specs.Phases.{IsCutShort, Ends, Cut, newest, missing, AtLoad, AtFiles}
+use Rattle.txn_machine.specs.Phases.{IsCutShort, Ends, Cut, commit_of, commit_version, newest, missing, AtLoad, AtFiles}
 use Rattle.txn_machine.specs.Texts.{read_commit, read_file}
 use Rattle.txn_machine.specs.Answered.{Kept, retention, version_limit, IsSelected, IsReplied, load_from, load_count, load_base, names_of, AtCommit, committed, Appends, Selects, AfterLoad, Loads, Makes, AfterListing, Answered}
 use Rattle.table_laws.specs.Bags.{Row}
@@ -33,11 +35,51 @@ use Rattle.table_laws.specs.Operations.{Operation, operation_of}
 use Rattle.table_laws.specs.Operations as operations
 use Rattle.table_laws.specs.Effects.{effect_of}
 use Rattle.table_laws.specs.Conflicts.{Level}
-use Rattle.table_laws.specs.Runs.{or_first, listed_by, told_by, StoredIn, LoadedTo, KeptPart}
-use Rattle.table_laws.proofs.Lawful.{Known, NoPut, AllLost, first_past, judge_of, Cleared, Knows, Claim, IsFile, IsTable, IsCommit, AllLawful}
-use Rattle.table_laws.proofs.Known.{loaded_more, knows_more}
-use Rattle.table_laws.proofs.Phases.{same_put, now_no_put, list_no_put, none_put, no_commit_put, lost_other, lost_to, given_more, known_more, Fresh, ended, was_cut, if_read, at_now, at_list, at_get, at_put_new, at_load, at_attempt}
+use Rattle.table_laws.specs.Runs.{or_first, listed_by, told_by, version_put, with_version, versions_put, GotIn, StoredIn, LoadedTo, KeptPart}
+use Rattle.table_laws.proofs.Lawful.{Known, NoPut, AllLost, first_past, judge_of, AllScanned, Cleared, Knows, versions_down, AllWon, ClaimOf, ClaimsRows, Claim, IsFile, IsTable, IsCommit, AllLawful}
+use Rattle.table_laws.proofs.Known.{loaded_more, knows_more, scanned_more, scanned_push}
+use Rattle.table_laws.proofs.Phases.{same_put, now_no_put, list_no_put, none_put, no_commit_put, lost_other, lost_to, given_more, known_more, Fresh, fresh_get, ended, was_cut, if_read, at_now, at_list, at_get, at_put_new, at_load, at_attempt}
 use Rattle.table_laws.proofs.Texts.{append_says}
+
+-- a commit's put is one of its version, and a data file's of none
+pub commit_put : (v : ℕ) (body : List ℕ) → v < 2 ^ 64 → version_put (PutNew (commit_text v) body) ≡ Some v
+commit_put v body small = ap commit_of (commit_is_read v small)
+
+pub data_put : (tag : Tag) (start : ℕ) (body : List ℕ) → version_put (PutNew (data_text tag start 0) body) ≡ None
+data_put tag start body = ap commit_of (data_is_outside tag start 0).0
+
+-- an entry that puts no commit
+pub other_put : (e : JournalEntry) (past : Entries) (call : Call) → e.call ≡ call → version_put call ≡ None → versions_put (e ∷ past) ≡ versions_put past
+other_put e past call is none = ap (λ (c : Call). with_version (version_put c) (versions_put past)) is ∙ ap (λ (o : Option ℕ). with_version o (versions_put past)) none
+
+-- one that puts a version's commit
+pub one_put : (e : JournalEntry) (past : Entries) (v : ℕ) (body : List ℕ) → v < 2 ^ 64 → e.call ≡ PutNew (commit_text v) body → versions_put (e ∷ past) ≡ v ∷ versions_put past
+one_put e past v body small is = ap (λ (c : Call). with_version (version_put c) (versions_put past)) is ∙ ap (λ (o : Option ℕ). with_version o (versions_put past)) (commit_put v body small)
+
+-- no commit was put where nothing was
+no_versions : (past : Entries) → NoPut past → versions_put past ≡ []
+no_versions [] none = refl
+no_versions (e ∷ past) none = by e.call refl (no_versions past (λ n b a h. none n b a (inr h)))
+  where
+    by : (c : Call) → e.call ≡ c → versions_put past ≡ [] → with_version (version_put c) (versions_put past) ≡ []
+    by (PutNew n b) is rest = absurd (none n b e.answer (inl (is, refl)))
+    by (Get n) is rest = rest
+    by (Replace n b) is rest = rest
+    by (ListNames n) is rest = rest
+    by (Delete n) is rest = rest
+    by Now is rest = rest
+    by (Wait t) is rest = rest
+
+still_won : (e : JournalEntry) (past : Entries) (read v : ℕ) → AllWon past read v → AllWon (e ∷ past) read v
+still_won e past read v won k from to = let w = won k from to in (w.0, inr w.1)
+
+-- one more winner
+one_won : (e f : JournalEntry) (past : Entries) (read v : ℕ) (body : List ℕ) → f.call ≡ Get (commit_text (suc v)) → f.answer ≡ Body body → AllWon past read v → AllWon (f ∷ e ∷ past) read (suc v)
+one_won e f past read v body got answer won k from to = by (nat_lt k v) refl
+  where
+    by : (b : Bool) → nat_lt k v ≡ b → (text : List ℕ) × GotIn (f ∷ e ∷ past) (commit_text (suc k)) text
+    by true less = let w = won k from (grind (arith, nat_tests)) in (w.0, inr (inr w.1))
+    by false more = let same : v ≡ k = grind (arith, nat_tests) in (body, inl (got ∙ ap (λ (n : ℕ). Get (commit_text (suc n))) same, answer))
 
 -- what a statement knows before an attempt, after so many lost ones
 pub record Attempts (level : Level) (K : List ℕ → List ℕ → Type 0) (tag : Tag) (op : Operation) (start read : ℕ) (s : Snapshot) (view : List ℕ → List Row) (lost : ℕ) (past : Entries) : Type 0 where
@@ -47,6 +89,8 @@ pub record Attempts (level : Level) (K : List ℕ → List ℕ → Type 0) (tag 
   pub listed : first_past listed_by past ≡ Some read
   pub knows : Knows level tag op start read s view (Known K past) (StoredIn past) before
   pub all_lost : AllLost past
+  pub puts : versions_put past ≡ versions_down read lost
+  pub won : AllWon past read before
 
 module _ (level : Level) (K : List ℕ → List ℕ → Type 0) (tag : Tag) (op : Operation) (start read : ℕ) (s : Snapshot) (view : List ℕ → List Row) where
   grown : (v : ℕ) (past : Entries) (e : JournalEntry) → Knows level tag op start read s view (Known K past) (StoredIn past) v → Knows level tag op start read s view (Known K (e ∷ past)) (StoredIn (e ∷ past)) v
@@ -74,6 +118,9 @@ module _ (level : Level) (K : List ℕ → List ℕ → Type 0) (tag : Tag) (op 
     abbrev P : ℕ → Entries → Type 0
     P lost past = Attempts level K tag op start read s view lost past
 
+    said : (v version : ℕ) → suc v ≡ version → read_commit version j.text ≡ Some (effect_of tag start op view s.files)
+    said v version is = subst (λ (n : ℕ). read_commit n j.text ≡ Some (effect_of tag start op view s.files)) is (says v)
+
     pub attempts : (limit : ℕ) (reply : Option Reply) (left : ℕ) (past es : Entries) → read + 1 + (0 + left) < 2 ^ 64 → P 0 past → AtCommit reply left start (read + 1) j (committed read) es → AllLawful level K tag statement reply past es
     attempts limit reply left past es small p h =
         at_attempt level K tag statement j (record { start = start; retention = retention; first = read + 1 }) (committed read) P
@@ -84,6 +131,8 @@ module _ (level : Level) (K : List ℕ → List ℕ → Type 0) (tag : Tag) (op 
           listed = given_more listed_by past e read p.listed;
           knows = grown p.before past e p.knows;
           all_lost = lost_other e past (no_commit_put e Now is now_no_put) p.all_lost;
+          puts = other_put e past Now is refl ∙ p.puts;
+          won = still_won e past read p.before p.won;
         })
         (λ lost past small p. IsCommit (record {
           version = p.before;
@@ -100,8 +149,12 @@ module _ (level : Level) (K : List ℕ → List ℕ → Type 0) (tag : Tag) (op 
           listed = p.listed;
           knows = p.knows;
           lost = p.all_lost;
+          tries = lost;
+          sum = let n = p.next in omega arith;
+          puts = p.puts;
+          won = p.won;
         }))
-        (λ lost past e f body winner put got answer why clear p. record {
+        (λ lost past e f body winner put got answer why clear small p. record {
           before = suc p.before;
           next = let n = p.next in omega arith;
           started = given_more told_by (e ∷ past) f start (given_more told_by past e start p.started);
@@ -109,9 +162,36 @@ module _ (level : Level) (K : List ℕ → List ℕ → Type 0) (tag : Tag) (op 
           knows = won_over p.before (Known K (f ∷ e ∷ past)) (StoredIn (f ∷ e ∷ past)) body (inr (inl (got ∙ ap (λ (n : ℕ). Get (commit_text n)) p.next, answer))) (clears p.before body winner clear)
               (grown p.before (e ∷ past) f (grown p.before past e p.knows));
           all_lost = lost_to e f past (commit_text (read + 1 + lost)) j.text body put got answer why p.all_lost;
+          puts = other_put f (e ∷ past) (Get (commit_text (read + 1 + lost))) got refl ∙ one_put e past (read + 1 + lost) j.text small put ∙ ap (λ (n : ℕ). n ∷ versions_put past) (let n : read + 1 + lost ≡ read + suc lost = omega arith in n)
+              ∙ ap (λ (l : List ℕ). (read + suc lost) ∷ l) p.puts;
+          won = one_won e f past read p.before body (got ∙ ap (λ (n : ℕ). Get (commit_text n)) p.next) answer p.won;
         })
-        (λ lost past e l put answer version attempts small p. tt)
-        (λ lost past e f l put got answer version attempts small p. tt)
+        (λ lost past e l put answer version attempts small p. record {
+          sum = omega arith;
+          above = omega arith;
+          small = omega arith;
+          listed = given_more listed_by past e read p.listed;
+          op = op;
+          start = start;
+          s = s;
+          view = view;
+          body = j.text;
+          says = said p.before l.version (let n = p.next in omega arith);
+          there = inl (inl (put ∙ ap (λ (v : ℕ). PutNew (commit_text v) j.text) (sym version), answer));
+        })
+        (λ lost past e f l put got answer version attempts small p. record {
+          sum = omega arith;
+          above = omega arith;
+          small = omega arith;
+          listed = given_more listed_by (e ∷ past) f read (given_more listed_by past e read p.listed);
+          op = op;
+          start = start;
+          s = s;
+          view = view;
+          body = j.text;
+          says = said p.before l.version (let n = p.next in omega arith);
+          there = inr (inl (got ∙ ap (λ (v : ℕ). Get (commit_text v)) (sym version), answer));
+        })
         reply left 0 [] past es small p h
 
 module _ (level : Level) (K : List ℕ → List ℕ → Type 0) (tag : Tag) (limit : ℕ) (limited : limit < 2 ^ 32) where
@@ -139,38 +219,50 @@ module _ (level : Level) (K : List ℕ → List ℕ → Type 0) (tag : Tag) (lim
           clear = λ k from to. absurd (let a : read ≤ k = from in let b : k < read = to in omega arith);
         };
         all_lost = lost_other e past (λ v b other. data_is_no_commit tag start 0 v (let two = same_put _ _ _ _ (sym put ∙ other) in two.0)) (λ v b a other. absurd (fresh.none _ _ _ other));
+        puts = other_put e past (PutNew (data_text tag start 0) (text_of_rows rows)) put (data_put tag start (text_of_rows rows)) ∙ no_versions past fresh.none;
+        won = λ k from to. absurd (let a : read ≤ k = from in let b : k < read = to in omega arith);
       }) on)
       (λ e rest put is on. ended level K tag (Insert rows) _ reply (e ∷ past) rest on)
 
   -- a select: its files
-  files : (reply : Option Reply) (next : List ScannedFile → Entries → Type 0) (paths : List (List ℕ)) (got : List ScannedFile) (past es : Entries) → AtFiles reply paths got next es
-      → ((got : List ScannedFile) (past rest : Entries) → next got rest → AllLawful level K tag Select reply past rest) → AllLawful level K tag Select reply past es
-  files reply next [] got past es h k = k got past es h
-  files reply next (path ∷ paths) got past es h k =
+  files : (reply : Option Reply) (start read : ℕ) (s : Snapshot) (next : List ScannedFile → Entries → Type 0) (done paths : List (List ℕ)) (got : List ScannedFile) (past es : Entries)
+      → AllScanned (Known K past) done got → LoadedTo (Known K past) (suc read) s → Fresh start read past → AtFiles reply paths got next es
+      → ((got : List ScannedFile) (past rest : Entries) → AllScanned (Known K past) (done ++ paths) got → LoadedTo (Known K past) (suc read) s → Fresh start read past → next got rest → AllLawful level K tag Select reply past rest)
+      → AllLawful level K tag Select reply past es
+  files reply start read s next done [] got past es scanned loaded fresh h k = k got past es (subst (λ (ps : List (List ℕ)). AllScanned (Known K past) ps got) (sym (append-nil done)) scanned) loaded fresh h
+  files reply start read s next done (path ∷ paths) got past es scanned loaded fresh h k =
       at_get level K tag Select _ _ path reply _ past es h (λ text e rest call answer on.
       if_read level K tag Select _ reply (λ rows. AtFiles reply paths (got ++ record { path = path; rows = rows } ∷ []) next) (e ∷ past) rest (read_file text) on (λ rows reads on.
-      files reply next paths (got ++ record { path = path; rows = rows } ∷ []) (e ∷ past) rest on k))
+      files reply start read s next (done ++ path ∷ []) paths (got ++ record { path = path; rows = rows } ∷ []) (e ∷ past) rest
+      (scanned_push (Known K (e ∷ past)) done got path (record { path = path; rows = rows }) (scanned_more (Known K past) (Known K (e ∷ past)) (known_more K past e) done got scanned) (text, inr (inl (call, answer)), reads))
+      (loaded_more (Known K past) (Known K (e ∷ past)) (known_more K past e) (suc read) s loaded)
+      (fresh_get start read past e path call fresh) on
+      (λ all past' rest' sure l f on'. k all past' rest' (subst (λ (ps : List (List ℕ)). AllScanned (Known K past') ps all) (append_assoc done (path ∷ []) paths) sure) l f on')))
 
-  selects : (read : ℕ) (reply : Option Reply) (s : Snapshot) (past es : Entries) → LoadedTo (Known K past) (suc read) s → Selects tag limit read reply s es → AllLawful level K tag Select reply past es
-  selects read reply s past es loaded h = files reply _ (paths_of s.files) [] past es h (λ got past' rest on. by got past' rest on.0 on.1)
+  selects : (start read : ℕ) (reply : Option Reply) (s : Snapshot) (past es : Entries) → LoadedTo (Known K past) (suc read) s → Fresh start read past → Selects tag limit read reply s es → AllLawful level K tag Select reply past es
+  selects start read reply s past es loaded fresh h =
+      files reply start read s _ [] (paths_of s.files) [] past es tt loaded fresh h (λ got past' rest scanned l f on. by got past' rest scanned l f on.0 on.1)
     where
-      claim : (got : List ScannedFile) (past : Entries) (o : Option Reply) → IsReplied (IsSelected read (length s.files) got) o → Claim K tag Select o past
-      claim got past None h = tt
-      claim got past (Some Created) h = tt
-      claim got past (Some (Committed v r a c)) h = tt
-      claim got past (Some (Rows v rows fr fl)) h = tt
-      claim got past (Some Killed) h = tt
-      claim got past (Some (Refused r)) h = tt
+      claim : (got : List ScannedFile) (past : Entries) → AllScanned (Known K past) (paths_of s.files) got → LoadedTo (Known K past) (suc read) s → Fresh start read past
+          → (o : Option Reply) → IsReplied (IsSelected read (length s.files) got) o → Claim K tag Select o past
+      claim got past scanned l f None h = tt
+      claim got past scanned l f (Some Created) h = tt
+      claim got past scanned l f (Some (Committed v r a c)) h = absurd h
+      claim got past scanned l f (Some (Rows v rows fr fl)) h =
+          subst (λ (n : ℕ). ClaimsRows K past n rows fr fl) (sym h.0) (record { listed = f.listed; s = s; loaded = l; got = got; scanned = scanned; sorts = h.1; files_read = h.2; files_live = h.3 })
+      claim got past scanned l f (Some Killed) h = tt
+      claim got past scanned l f (Some (Refused r)) h = tt
 
-      by : (got : List ScannedFile) (past rest : Entries) → rest ≡ [] → IsReplied (IsSelected read (length s.files) got) reply ⊎ IsCutShort reply → AllLawful level K tag Select reply past rest
-      by got past rest none (inl replied) = subst (λ (es : Entries). AllLawful level K tag Select reply past es) (sym none) (claim got past reply replied)
-      by got past rest none (inr short) = was_cut level K tag Select reply past rest (none, short)
+      by : (got : List ScannedFile) (past rest : Entries) → AllScanned (Known K past) (paths_of s.files) got → LoadedTo (Known K past) (suc read) s → Fresh start read past → rest ≡ [] → IsReplied (IsSelected read (length s.files) got) reply ⊎ IsCutShort reply
+          → AllLawful level K tag Select reply past rest
+      by got past rest scanned l f none (inl replied) = subst (λ (es : Entries). AllLawful level K tag Select reply past es) (sym none) (claim got past scanned l f reply replied)
+      by got past rest scanned l f none (inr short) = was_cut level K tag Select reply past rest (none, short)
 
   loaded_then : (statement : Statement) → ((rows : List Row) → statement ≡ Insert rows → rows_of_text (text_of_rows rows) ≡ Some rows) → (start read : ℕ) (reply : Option Reply) (s : Snapshot) (past es : Entries) → read < version_limit → LoadedTo (Known K past) (suc read) s → Fresh start read past
       → AfterLoad tag limit statement start read reply s es → AllLawful level K tag statement reply past es
   loaded_then (Table spec) faithful start read reply s past es small loaded fresh h = ended level K tag (Table spec) refusal.TableThere reply past es h
   loaded_then (Insert rows) faithful start read reply s past es small loaded fresh h = appends rows (faithful rows refl) start read reply s past es small loaded fresh h
-  loaded_then Select faithful start read reply s past es small loaded fresh h = selects read reply s past es loaded h
+  loaded_then Select faithful start read reply s past es small loaded fresh h = selects start read reply s past es loaded fresh h
 
   -- the load begins with what is kept, or with no table
   base_known : (kept : Option Kept) (v : ℕ) → KeptPart K kept → (LoadedTo K (load_from kept v) (load_base kept v)) × (load_count kept v + load_from kept v ≡ suc v)
@@ -219,7 +311,7 @@ module _ (level : Level) (K : List ℕ → List ℕ → Type 0) (tag : Tag) (lim
       at_attempt level K tag (Table spec) (record { text = text_of_columns (names_of spec.columns); makes_table = true }) (record { start = start; retention = retention; first = 0 }) (λ l. Created) (λ lost past. lost ≡ 0)
       (λ lost past e is p. p)
       (λ lost past small p. let zero_is : 0 + lost ≡ 0 = omega arith in IsTable spec refl (ap commit_text zero_is) refl)
-      (λ lost past e f body winner put got answer why clear p. cc)
+      (λ lost past e f body winner put got answer why clear small p. cc)
       (λ lost past e l put answer version attempts small p. tt)
       (λ lost past e f l put got answer version attempts small p. tt)
       reply limit 0 [] past es (omega arith) refl h

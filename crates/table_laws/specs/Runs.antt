@@ -3,7 +3,7 @@ use Rattle.std.specs.Prelude.{◌≡◌, ◌⊎◌, ℕ, zero, suc, ◌<◌, ◌
 use Rattle.std.specs.Str.{bytes_eq}
 use Rattle.edge_api.specs.declared.call.Tag.{Tag}
 use Rattle.edge_api.specs.declared.call.Call.{Call}
-use Rattle.edge_api.specs.declared.call.Call.TheVariants.{Get, PutNew, List as ListNames, Now}
+use Rattle.edge_api.specs.declared.call.Call.TheVariants.{Get, PutNew, Put as Replace, List as ListNames, Delete, Now, Wait}
 use Rattle.edge_api.specs.declared.call.Answer.{Answer}
 use Rattle.edge_api.specs.declared.call.Answer.TheVariants.{Body, Stored, Names, Time}
 use Rattle.row_base.specs.declared.row.Datum.{Datum}
@@ -15,7 +15,7 @@ use Rattle.table_rules.specs.Told.{IsTag}
 use Rattle.line_texts.specs.Texts.{text_of_rows, rows_of_text}
 use Rattle.snapshot_replay.specs.Table.{Commit, Snapshot, no_table, applied}
 use Rattle.call_phases.specs.Phases.{Entries}
-use Rattle.txn_machine.specs.Phases.{newest}
+use Rattle.txn_machine.specs.Phases.{newest, commit_version}
 use Rattle.txn_machine.specs.Texts.{read_commit}
 use Rattle.txn_machine.specs.Answered.{Kept, Answered}
 
@@ -60,6 +60,25 @@ version_read es = first_given listed_by es
 
 abbrev pub started_at : Entries → Option ℕ
 started_at es = first_given told_by es
+
+-- the version whose commit a call puts
+abbrev pub version_put : Call → Option ℕ
+version_put (PutNew name body) = commit_version name
+version_put (Get name) = None
+version_put (Replace name body) = None
+version_put (ListNames prefix) = None
+version_put (Delete name) = None
+version_put Now = None
+version_put (Wait time) = None
+
+abbrev pub with_version : Option ℕ → List ℕ → List ℕ
+with_version None vs = vs
+with_version (Some v) vs = v ∷ vs
+
+-- the versions whose commits the entries put, whatever the answers
+abbrev pub versions_put : Entries → List ℕ
+versions_put [] = []
+versions_put (e ∷ es) = with_version (version_put e.call) (versions_put es)
 
 -- a body was got, or a put of it was answered as stored
 abbrev pub GotIn : Entries → List ℕ → List ℕ → Type 0

@@ -1,7 +1,7 @@
 //! What holds of every journal in which each statement's entries are answered.
 #![tactic(auto)]
 
-ghost use Rattle.table_laws.specs.Laws.{EachVersionIsSerial, FirstVersionIsEmpty, EachStatementCommitsOnce};
+ghost use Rattle.table_laws.specs.Laws.{EachVersionIsSerial, FirstVersionIsEmpty, EachStatementCommitsOnce, EachCommitLands, EachReplyCommitted, EachReplyRead};
 ghost use Rattle.table_laws.specs.Folded.{EachVersionIsFolded};
 
 /// Each committed version is the one before with one statement's operation done, whatever the schedule and whatever the
@@ -24,4 +24,21 @@ pub fn each_statement_commits_once()
 /// The rows of each version are what the operations of the versions up to it give, done one after another from no rows on.
 pub fn each_version_is_folded()
     ensures { EachVersionIsFolded }
+{}
+
+/// A statement whose commit landed above version 0 put it once at each version above the one that it read, in order.
+/// All puts but the last were lost to other statements' commits, which were there before.
+pub fn each_commit_lands()
+    ensures { EachCommitLands }
+{}
+
+/// A reply of a commit says which version its statement committed, which one it read, and how many puts it made.
+pub fn each_reply_committed()
+    ensures { EachReplyCommitted }
+{}
+
+/// A reply of rows has exactly the rows of the newest version in its statement's listing, in order, from all its live
+/// files.
+pub fn each_reply_read()
+    ensures { EachReplyRead }
 {}

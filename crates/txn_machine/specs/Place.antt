@@ -1,8 +1,10 @@
 -- Where the actor of a statement stands.
-use Rattle.std.specs.Prelude.{Bool, true, false, ℕ, List, [], ◌∷◌, Option, Some, None}
+use Rattle.std.specs.Prelude.{◌≡◌, Bool, true, false, ℕ, List, [], ◌∷◌, Option, Some, None}
 use Rattle.edge_api.specs.declared.call.Call.{Call}
+use Rattle.edge_api.specs.declared.call.Call.TheVariants.{Get, PutNew, Put, List as ListNames, Delete, Now, Wait}
 use Rattle.edge_api.specs.declared.actor.Stage.{Stage as Place}
 use Rattle.edge_api.specs.declared.actor.Stage.TheVariants as place
+use Rattle.table_rules.specs.Names.{commit_text}
 use Rattle.committer.specs.Machine as attempts
 use Rattle.txn_machine.specs.declared.stage.Stage.{Stage}
 use Rattle.txn_machine.specs.declared.stage.Stage.TheVariants as stage
@@ -28,3 +30,20 @@ place_of (stage.Files f) = place_of_files f.left.items
 place_of (stage.Data d) = place.Running
 place_of (stage.Attempting a) = place_of_attempts (attempts.call_of a.attempts)
 place_of (stage.Done r) = place.Done
+
+-- the call puts a version's commit
+abbrev pub PutsCommit : Call → Type 0
+PutsCommit (PutNew name body) = (version : ℕ) × (name ≡ commit_text version)
+PutsCommit (Get name) = ⊥
+PutsCommit (Put name body) = ⊥
+PutsCommit (ListNames prefix) = ⊥
+PutsCommit (Delete name) = ⊥
+PutsCommit Now = ⊥
+PutsCommit (Wait time) = ⊥
+
+-- the next call, by where the actor stands: it reads the clock for a new statement, and puts a commit exactly at an attempt
+abbrev pub IsCallAt : Place → Call → Type 0
+IsCallAt place.Between call = call ≡ Now
+IsCallAt place.Running call = PutsCommit call → ⊥
+IsCallAt place.Attempt call = PutsCommit call
+IsCallAt place.Done call = ⊥

@@ -1,5 +1,5 @@
 // A statement goes on with each answer.
-ghost use Rattle.std.specs.Prelude.{◌≡◌, ◌+◌, ◌*◌, ◌<◌, ◌≤◌, ◌^◌, ◌-◌, ℕ, suc, length, List, [], ◌∷◌, ◌++◌, ◌⊎◌, Option, IfOk, IfSome, IsSomeAnd, None, Some, OnErr, is_none};
+ghost use Rattle.std.specs.Prelude.{◌≡◌, ◌≢◌, ◌+◌, ◌*◌, ◌<◌, ◌≤◌, ◌^◌, ◌-◌, ℕ, suc, length, List, [], ◌∷◌, ◌++◌, ◌⊎◌, Option, IfOk, IfSome, IsSomeAnd, None, Some, OnErr, is_none};
 ghost use Rattle.std.specs.declared.result.Result.{Result as AResult};
 ghost use Rattle.edge_api.specs.declared.call.Call.TheVariants as call;
 ghost use Rattle.edge_api.specs.declared.call.Listed.{Listed as AListed};
@@ -171,7 +171,8 @@ fn make_loading(
 
 /// The put of a data file with its call. The error is want of memory.
 fn make_put(start: u64, read: u64, path: Name, body: Body) -> Result<(DataPut, Call), AllocError>
-    requires { read < 2 ^ 20 }
+    requires bound { read < 2 ^ 20 }
+    requires outside { (version : ℕ) → path ≢ commit_text version }
     ensures start { IfOk result (λ x. x.0.start ≡ start) }
     ensures read { IfOk result (λ x. x.0.read ≡ read) }
     ensures path { IfOk result (λ x. x.0.path ≡ path) }
@@ -231,7 +232,8 @@ impl Plan {
 
     /// A data file is put.
     fn puts(self, start: u64, read: u64, path: Name, body: Body) -> Ahead
-        requires { read < 2 ^ 20 }
+        requires bound { read < 2 ^ 20 }
+        requires outside { (version : ℕ) → path ≢ commit_text version }
         ensures ready { result.call ≡ call_of result.stage }
         ensures follows { (es : Entries) (reply : Option AReply) → Rest self result.stage es reply → AtData self.limit path body start read reply es }
         ensures falls { left_of self result.stage ≤ 3 * self.limit + 10 }

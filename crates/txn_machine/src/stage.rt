@@ -1,5 +1,5 @@
 // Where a statement stands, with its next call made ready.
-ghost use Rattle.std.specs.Prelude.{◌≡◌, ◌+◌, ◌<◌, ◌≤◌, ◌^◌, []};
+ghost use Rattle.std.specs.Prelude.{◌≡◌, ◌≢◌, ◌+◌, ◌<◌, ◌≤◌, ◌^◌, ℕ, []};
 ghost use Rattle.table_rules.specs.Names.{log_prefix, commit_text};
 
 use crate::CommitJudge;
@@ -70,6 +70,7 @@ pub struct DataPut {
     pub path: Name,
     pub body: Body,
     pub ghost bound: { read < 2 ^ 20 },
+    pub ghost outside: { (version : ℕ) → path ≢ commit_text version },
 }
 
 /// The commit's attempts, with the version that was read; a table is made without one.

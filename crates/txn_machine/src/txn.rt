@@ -5,6 +5,8 @@ ghost use Rattle.call_phases.specs.Phases.{Entries};
 ghost use Rattle.txn_machine.specs.Answered.{Answered};
 ghost use Rattle.txn_machine.specs.declared.stage.Plan.{Plan as APlan};
 ghost use Rattle.txn_machine.specs.Machine.{Rest, call_of, left_of};
+ghost use Rattle.edge_api.specs.declared.actor.Stage.TheVariants as place;
+ghost use Rattle.txn_machine.specs.Place.{place_of};
 ghost use Rattle.txn_machine.specs.Txn.{IsReady};
 
 use crate::stage::{Ahead, Plan, Stage, Start};
@@ -32,6 +34,7 @@ fn begin(alloc: Global, statement: Statement) -> Ahead
     ensures ready { result.call ≡ call_of result.stage }
     ensures begins { (p : APlan) (es : Entries) (reply : Option AReply) → Rest p result.stage es reply → Answered p.tag p.limit None statement es reply }
     ensures most { (p : APlan) → left_of p result.stage ≤ 3 * p.limit + 2097200 }
+    ensures first { IfSome result.call (λ call. place_of result.stage ≡ place.Between) }
 {
     match Name::make(alloc, "") {
         Ok(nameless) => Ahead {
@@ -56,6 +59,7 @@ impl Txn {
         ensures limit { result.plan.limit ≡ limit }
         ensures begins { (es : Entries) (reply : Option AReply) → Rest result.plan result.stage es reply → Answered tag limit None statement es reply }
         ensures left { left_of result.plan result.stage ≤ 3 * limit + 2097200 }
+        ensures first { IfSome result.pending (λ call. place_of result.stage ≡ place.Between) }
     {
         let ahead = begin(alloc, statement);
         Txn {

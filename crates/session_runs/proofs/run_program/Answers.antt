@@ -2,11 +2,11 @@ use Rattle.std.proofs.Common.{rules, refl, ℕ, ◌∙◌, ◌≡◌, ◌≤◌,
 use Rattle.std.specs.Prelude.{map, All}
 use Rattle.op_types.specs.declared.statement.Statement.TheVariants.{Table}
 use Rattle.op_types.specs.declared.reply.Reply.{Reply}
-use Rattle.session_runs.specs.Run.{Runs, FollowsItems}
+use Rattle.session_runs.specs.Run.{IsPlain, Runs, FollowsItems}
 use Rattle.session_runs.proofs.Replies.{given, all_replied, all_ready, all_map, begin_long, length-map}
 use Rattle.session_runs.proofs.Laws.{is_serial}
 use Rattle.line_texts.proofs.Laws.{rows_read_back}
-use Rattle.table_laws.proofs.Serial.{each_version_is_serial, each_statement_commits_once, first_version_is_empty}
+use Rattle.table_laws.proofs.Serial.{each_version_is_serial, each_statement_commits_once, first_version_is_empty, each_commit_lands, each_reply_committed, each_reply_read}
 use Rattle.session_runs.proofs.run_program.Goals as goal
 
 pub run_others-requires-clause-ready : goal.run_others-requires-clause-ready
@@ -55,5 +55,5 @@ returns-clause-serial g c =
     let j = g.W.World.journal in
     let lists = map (λ s. s.items) c.args.sessions.items in
     let few : length lists ≤ 64 = subst (λ (n : ℕ). n ≤ 64) (sym (length-map (λ s. s.items) c.args.sessions.items)) c.requires.sessions in
-    is_serial each_version_is_serial each_statement_commits_once first_version_is_empty rows_read_back (record { table = c.args.table; sessions = lists; limit = c.args.limit; items = c.args.items.now }) (j c.args.world.now) (j c.run_others.new.world)
-    c.give_replies.new.replies.items c.requires.few few (all_map (λ s. s.items) (λ s. length s ≤ 4096) c.args.sessions.items c.requires.statements) (returns-clause-runs g c)
+    is_serial each_version_is_serial each_statement_commits_once first_version_is_empty each_commit_lands each_reply_committed each_reply_read rows_read_back (record { table = c.args.table; sessions = lists; limit = c.args.limit; items = c.args.items.now }) (j c.args.world.now) (j c.run_others.new.world)
+    c.give_replies.new.replies.items c.requires.few few (all_map (λ s. s.items) (λ s. length s ≤ 4096) c.args.sessions.items c.requires.statements) (all_map (λ s. s.items) (λ s. All IsPlain s) c.args.sessions.items c.requires.plain) (returns-clause-runs g c)

@@ -2,6 +2,7 @@ use Rattle.std.proofs.Common.{rules, ◌≡◌, ◌∙◌, ◌++◌, [], List, s
 use Rattle.op_types.specs.declared.reply.Reply.{Reply}
 use Rattle.sessions.specs.Session.{plans_from, Begins, AllAnswered}
 use Rattle.sessions.proofs.Sessions.{begun_answered}
+use Rattle.sessions.proofs.Stands.{counted_new}
 use Rattle.sessions.proofs.session.Session.new.Goals as goal
 
 pub returns-clause-starts : goal.returns-clause-starts
@@ -14,3 +15,6 @@ returns-clause-starts c es all h =
     let all_is : all ≡ m.2.0 = m.2.1 ∙ ap (λ (l : List Reply). l ++ m.2.0) none in
     let whole = begun_answered m.0 plans later c.begin-first.result es m.2.0 begins m.2.2 in
     (m.0, m.1, subst (λ (l : List Reply). AllAnswered m.0 plans es l) (sym all_is) whole)
+
+pub start-requires-clause-counted : goal.start-requires-clause-counted
+start-requires-clause-counted c = counted_new c.begin-first.result 1 c.begin-first.new.next c.begin-first.ensures.fresh

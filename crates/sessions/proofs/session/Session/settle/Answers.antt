@@ -4,6 +4,7 @@ use Rattle.txn_machine.specs.declared.txn.Txn.{Txn}
 use Rattle.txn_machine.specs.Machine.{left_of}
 use Rattle.sessions.specs.Session.{later_plans, RestBy, count_now, left_now}
 use Rattle.sessions.proofs.Sessions.{begun_left}
+use Rattle.sessions.proofs.Stands.{next_is, goes_further, goes_on_by, goes_on_none}
 use Rattle.sessions.proofs.session.Session.settle.Goals as goal
 
 pub turns-preserved : goal.turns-preserved
@@ -15,6 +16,7 @@ turns-preserved c =
     let most : left_now c.turn.result ≤ count_now c.turn.result * (3 * c.args.self.now.limit + 2097201) = subst (λ (n : ℕ). left_now c.turn.result ≤ count_now c.turn.result * (3 * n + 2097201)) i.limit e.left in
     let whole = begun_left (length new.later.items) (count_now c.turn.result) (length c.turns.self.later.items) (3 * c.args.self.now.limit + 2097201) (left_now c.turn.result) (left_of c.turns.txn.plan c.turns.txn.stage) most e.fewer in
     let now : left_now c.turn.result ≡ left_of c.in-Some.next.plan c.in-Some.next.stage = ap left_now is in
+    let fresh = next_is c.turn.result c.in-Some.next c.turns.self.next new.next is e.fresh in
     record {
       ready = search rules;
       tag = search rules;
@@ -24,6 +26,8 @@ turns-preserved c =
       current = e.current ∙ i.current;
       room = subst (λ (n : Option Txn). length new.replies.items + count_now n + length new.later.items ≤ vec_capacity new.replies) is e.room;
       numbers = e.numbers;
+      counted = (fresh.number, fresh.most);
+      goes_on = goes_further c.args.txn c.turns.txn c.in-Some.next c.turns.self.next new.next i.counted.0 i.goes_on fresh;
       left = omega (arith, whole, i.left, now);
       turns = λ killed es all h. i.turns killed es all (e.turns killed es all (subst (λ (n : Option Txn). RestBy killed new.replies.items n (later_plans new) es all) (sym is) h));
     }
@@ -35,3 +39,6 @@ returns-in-None-clause-settles c killed es all h =
     let new = c.turn.new.self in
     let none : c.turn.result ≡ None = search rules in
     i.turns killed es all (e.turns killed es all (subst (λ (n : Option Txn). RestBy killed new.replies.items n (later_plans new) es all) (e.current ∙ i.current ∙ sym none) h))
+
+pub returns-in-None-clause-goes_on : goal.returns-in-None-clause-goes_on
+returns-in-None-clause-goes_on c = goes_on_none c.args.txn c.turn.new.self.current (c.turn.ensures.current ∙ c.turns.invariant.current)

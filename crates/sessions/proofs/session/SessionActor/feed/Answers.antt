@@ -1,7 +1,9 @@
 use Rattle.std.proofs.Common.{rules, ◌≡◌, ◌≤◌, ◌+◌, ◌*◌, length, Some, arith}
+use Rattle.edge_api.specs.Actor.{event_of}
 use Rattle.txn_machine.specs.Machine.{left_of}
 use Rattle.sessions.specs.Session.{left}
 use Rattle.sessions.proofs.Sessions.{asked, event_goes, event_falls, has_calls}
+use Rattle.sessions.proofs.Stands.{event_counted, event_entry, event_between, goes_on_still}
 use Rattle.sessions.proofs.session.SessionActor.feed.Goals as goal
 
 pub settle-requires-clause-ready : goal.settle-requires-clause-ready
@@ -10,6 +12,14 @@ settle-requires-clause-ready c =
     let is : c.args.self.now.current ≡ Some c.in-Some.txn = search rules in
     let o = asked q.0 q.1 q.2 c.args.self.now c.in-Some.txn q.3 is in
     (c.feed.ensures.fed o.before q.1 q.2 o.asks).2
+
+pub settle-requires-clause-counted : goal.settle-requires-clause-counted
+settle-requires-clause-counted c =
+    let q = c.requires in
+    let is : c.args.self.now.current ≡ Some c.in-Some.txn = search rules in
+    let o = asked q.0 q.1 q.2 c.args.self.now c.in-Some.txn q.3 is in
+    let f = c.feed.ensures.fed o.before q.1 q.2 o.asks in
+    event_counted q.0 q.1 q.2 c.args.self.now o.before c.feed.new.self _ q.3 o.is f.0 f.1
 
 pub count-requires-clause-calls : goal.count-requires-clause-calls
 count-requires-clause-calls c =
@@ -25,8 +35,13 @@ returns-in-Some-clause-fed c old tag call asks =
     let is : self.current ≡ Some c.in-Some.txn = search rules in
     let o = asked old tag call self c.in-Some.txn asks is in
     let f = c.feed.ensures.fed o.before tag call o.asks in
-    let most : left c.count.new.self ≤ length self.later.items * (3 * self.limit + 2097201) + left_of t.plan t.stage = omega (arith, c.count.ensures.falls, c.settle.ensures.falls) in (
-      λ es all h. event_goes old tag call self new o.before t c.args.answer _ es all asks o.is f.0 c.settle.ensures.kill c.is_answer-heard.ensures (λ killed rest. c.settle.ensures.settles killed es all rest) (c.count.ensures.remains es all h),
+    let most : left c.count.new.self ≤ length self.later.items * (3 * self.limit + 2097201) + left_of t.plan t.stage = omega (arith, c.count.ensures.falls, c.settle.ensures.falls) in
+    let on = goes_on_still t new.current c.count.new.self.current c.count.ensures.now c.settle.ensures.goes_on in (
+      record {
+        entry = event_entry old.current o.before tag call c.in-Some.txn c.args.answer o.is o.asks;
+        between = event_between old tag call self o.before t (event_of tag call c.args.answer) c.count.new.self.current asks o.is f.0 f.1 on;
+        leads = λ es all h. event_goes old tag call self new o.before t c.args.answer _ es all asks o.is f.0 c.settle.ensures.kill c.is_answer-heard.ensures (λ killed rest. c.settle.ensures.settles killed es all rest) (c.count.ensures.remains es all h);
+      },
       event_falls old tag call self c.count.new.self o.before t asks o.is f.1 most,
       c.count.ensures.ready,
     )
