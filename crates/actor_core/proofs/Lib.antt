@@ -6,3 +6,4 @@ pub mod Numbers
 pub mod Orderly
 pub mod JournalOrder
 pub mod Faults
+pub mod Along

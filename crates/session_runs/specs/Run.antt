@@ -3,7 +3,6 @@ use Rattle.std.specs.Prelude.{◌≡◌, ◌<◌, ◌+◌, ℕ, zero, suc, List,
 use Rattle.std.specs.Int.{w64}
 use Rattle.edge_api.specs.declared.call.JournalEntry.{JournalEntry}
 use Rattle.edge_api.specs.declared.call.Tag.{Tag}
-use Rattle.edge_api.specs.Actor.{Moves}
 use Rattle.edge_api.specs.Journal.{Moment, IsLegal, entries_of}
 use Rattle.edge_api.specs.World.{Grows}
 use Rattle.row_base.specs.declared.row.Datum.{Datum}
@@ -12,14 +11,12 @@ use Rattle.op_types.specs.declared.statement.Statement.{Statement}
 use Rattle.op_types.specs.declared.statement.Statement.TheVariants.{Table, Insert, Select}
 use Rattle.op_types.specs.declared.statement.TableSpec.{TableSpec}
 use Rattle.op_types.specs.declared.reply.Reply.{Reply}
-use Rattle.actor_core.specs.declared.piece.Till.TheVariants.{End}
 use Rattle.actor_core.specs.declared.schedule.Item.{Item}
 use Rattle.actor_core.specs.Entries.{of_actor}
-use Rattle.actor_core.specs.Piece.{RunsPiece}
-use Rattle.actor_core.specs.Schedule.{FollowsSchedule}
 use Rattle.sessions.specs.declared.session.Session.{Session}
-use Rattle.sessions.specs.Session.{plans_from, AnsweredTo, Remains, IsReady, Goes, place_now}
+use Rattle.sessions.specs.Session.{plans_from, AnsweredTo, Remains, IsReady}
 use Rattle.table_laws.specs.Conflicts.{Level}
+use Rattle.table_laws.specs.Folded.{RowsAreFolded}
 use Rattle.table_laws.specs.Laws.{VersionsAreSerial, CommitsOnce, FirstIsEmpty, CommitsLand, RepliesCommitted, RepliesRead}
 
 -- what runs: the table that is made first, by actor 0, then the sessions' statements in the order of the items
@@ -88,23 +85,9 @@ AllBegin limit actor [] sessions = sessions ≡ []
 AllBegin limit actor (statements ∷ scripts) [] = ⊥
 AllBegin limit actor (statements ∷ scripts) (s ∷ sessions) = Begins actor limit statements s × AllBegin limit (suc actor) scripts sessions
 
--- the journal has grown by the calls of actor 0 to its end, and then by those of the sessions in the order of the items, then of each to its end
-pub record InItsOrder (p : Program) (before after : Option (List JournalEntry)) : Type 0 where
-  pub middle : Option (List JournalEntry)
-  pub first : Session
-  pub first_end : Session
-  pub others : List Session
-  pub others_end : List Session
-  pub first_begins : Begins 0 p.limit (Table p.table ∷ []) first
-  pub others_begin : AllBegin p.limit 1 p.sessions others
-  pub first_runs : RunsPiece (Moves Goes (λ s. s.actor)) (λ s. place_now s.current) End before middle first first_end
-  pub others_follow : FollowsSchedule (Moves Goes (λ s. s.actor)) (λ s. place_now s.current) p.items middle after others others_end
-
-unfoldable pub FollowsItems : Program → Option (List JournalEntry) → Option (List JournalEntry) → Type 0
-FollowsItems p before after = InItsOrder p before after
-
 -- Each version follows from the one before at both levels, no statement commits twice, and version 0 has no rows. Each commit above version 0 was put at
--- each version above the one that was read, and lost only to other statements. Replies of commits and of rows say what was committed and what was read
+-- each version above the one that was read, and lost only to other statements. Replies of commits and of rows say what was committed and what was read.
+-- The rows of a version are what the operations up to it give, done one after another
 pub record IsLawful (scripts : List (List Statement)) (replies : List (List Reply)) (moments : List Moment) : Type 0 where
   pub serial : (level : Level) → VersionsAreSerial level (statement_of scripts) moments
   pub once : CommitsOnce moments
@@ -112,6 +95,7 @@ pub record IsLawful (scripts : List (List Statement)) (replies : List (List Repl
   pub lands : CommitsLand moments
   pub committed : RepliesCommitted (statement_of scripts) (reply_of replies) moments
   pub read : RepliesRead (statement_of scripts) (reply_of replies) moments
+  pub folded : RowsAreFolded (statement_of scripts) moments
 
 -- from an empty journal on, every legal completion of the journal is lawful
 unfoldable pub IsSerial : Program → Option (List JournalEntry) → Option (List JournalEntry) → List (List Reply) → Type 0

@@ -4,8 +4,10 @@
 ghost use Rattle.std.specs.Prelude.{◌≡◌, ◌≤◌, ◌<◌, ◌+◌, ◌++◌, [], ◌∷◌, length, All, map, IfOk, OnOk, OnErr, vec_capacity};
 ghost use Rattle.edge_api.specs.Actor.{Moves};
 ghost use Rattle.actor_core.specs.Schedule.{FollowsSchedule, TakesTurns};
+ghost use Rattle.actor_core.specs.Faults.{FaultsAreCounted};
 ghost use Rattle.sessions.specs.Session.{IsLimit, IsReady, left, Goes, place_now};
-ghost use Rattle.session_runs.specs.Run.{IsPlain, Runs, FollowsItems, IsSerial, Begins, AllBegin};
+ghost use Rattle.session_runs.specs.Run.{IsPlain, Runs, IsSerial, Begins, AllBegin};
+ghost use Rattle.session_runs.specs.Order.{FollowsItems};
 
 use actor_core::{Item, Till, run_piece, run_schedule};
 use edge_api::World;
@@ -68,6 +70,7 @@ fn run_others<W: World>(sessions: &mut Vec<Session>, world: &mut W, items: &[Ite
     ensures done { All (λ s. left s ≡ 0) sessions.new.items }
     ensures follows { FollowsSchedule (Moves Goes (λ s. s.actor)) (λ s. place_now s.current) items.now (W.journal world.old) (W.journal world.new) sessions.old.items sessions.new.items }
     ensures turns { TakesTurns (Moves Goes (λ s. s.actor)) (W.journal world.old) (W.journal world.new) sessions.old.items sessions.new.items }
+    ensures counted { FaultsAreCounted (W.journal world.old) (W.journal world.new) (W.faults world.old) (W.faults world.new) }
 {
     run_schedule(sessions, world, items);
 }
@@ -105,6 +108,7 @@ pub fn run_program<W: World>(
     ensures follows { OnOk result (FollowsItems (record { table = table; sessions = map (λ s. s.items) sessions.items; limit = limit; items = items.now }) (W.journal world.old) (W.journal world.new)) }
     ensures serial { IfOk result (λ replies. IsSerial (record { table = table; sessions = map (λ s. s.items) sessions.items; limit = limit; items = items.now }) (W.journal world.old) (W.journal world.new) replies.items) }
     ensures none { OnErr result (W.journal world.new ≡ W.journal world.old) }
+    ensures counted { FaultsAreCounted (W.journal world.old) (W.journal world.new) (W.faults world.old) (W.faults world.new) }
 {
     let mut replies = Vec::with_capacity(alloc, sessions.len() + 1)?;
     let mut first = table_session(alloc, table, limit)?;

@@ -2,10 +2,14 @@ use Rattle.std.proofs.Common.{rules, refl, ℕ, ◌∙◌, ◌≡◌, ◌≤◌,
 use Rattle.std.specs.Prelude.{map, All}
 use Rattle.op_types.specs.declared.statement.Statement.TheVariants.{Table}
 use Rattle.op_types.specs.declared.reply.Reply.{Reply}
-use Rattle.session_runs.specs.Run.{IsPlain, Runs, FollowsItems}
+use Rattle.session_runs.specs.Run.{IsPlain, Runs}
+use Rattle.session_runs.specs.Order.{FollowsItems}
+use Rattle.session_runs.proofs.Order.{seen, runs_seen, follows_seen, numbered_seen}
 use Rattle.session_runs.proofs.Replies.{given, all_replied, all_ready, all_map, begin_long, length-map}
+use Rattle.actor_core.proofs.Faults.{counted_more}
 use Rattle.session_runs.proofs.Laws.{is_serial}
 use Rattle.line_texts.proofs.Laws.{rows_read_back}
+use Rattle.table_laws.proofs.Folded.{each_version_is_folded}
 use Rattle.table_laws.proofs.Serial.{each_version_is_serial, each_statement_commits_once, first_version_is_empty, each_commit_lands, each_reply_committed, each_reply_read}
 use Rattle.session_runs.proofs.run_program.Goals as goal
 
@@ -29,14 +33,14 @@ returns-clause-follows g c =
     let j = g.W.World.journal in
     record {
       middle = j c.run_piece.new.world;
-      first = c.in_ok-first.first;
-      first_end = c.run_piece.new.actor;
-      others = c.in_ok-others.others.items;
-      others_end = c.run_others.new.sessions.items;
-      first_begins = c.in_ok-first.ensures;
-      others_begin = c.in_ok-others.ensures;
-      first_runs = c.run_piece.ensures.runs;
-      others_follow = c.run_others.ensures.follows;
+      first = seen c.in_ok-first.first;
+      first_end = seen c.run_piece.new.actor;
+      others = map seen c.in_ok-others.others.items;
+      others_end = map seen c.run_others.new.sessions.items;
+      first_number = (c.in_ok-first.ensures).number;
+      others_numbers = numbered_seen c.args.limit 1 (map (λ s. s.items) c.args.sessions.items) c.in_ok-others.others.items c.in_ok-others.ensures;
+      first_runs = runs_seen (j c.args.world.now) (j c.run_piece.new.world) c.in_ok-first.first c.run_piece.new.actor c.run_piece.ensures.runs;
+      others_follow = follows_seen c.args.items.now (j c.run_piece.new.world) (j c.run_others.new.world) c.in_ok-others.others.items c.run_others.new.sessions.items c.run_others.ensures.follows;
     }
 
 pub run_others-requires-clause-items : goal.run_others-requires-clause-items
@@ -55,5 +59,11 @@ returns-clause-serial g c =
     let j = g.W.World.journal in
     let lists = map (λ s. s.items) c.args.sessions.items in
     let few : length lists ≤ 64 = subst (λ (n : ℕ). n ≤ 64) (sym (length-map (λ s. s.items) c.args.sessions.items)) c.requires.sessions in
-    is_serial each_version_is_serial each_statement_commits_once first_version_is_empty each_commit_lands each_reply_committed each_reply_read rows_read_back (record { table = c.args.table; sessions = lists; limit = c.args.limit; items = c.args.items.now }) (j c.args.world.now) (j c.run_others.new.world)
+    is_serial each_version_is_serial each_statement_commits_once first_version_is_empty each_commit_lands each_reply_committed each_reply_read each_version_is_folded rows_read_back (record { table = c.args.table; sessions = lists; limit = c.args.limit; items = c.args.items.now }) (j c.args.world.now) (j c.run_others.new.world)
     c.give_replies.new.replies.items c.requires.few few (all_map (λ s. s.items) (λ s. length s ≤ 4096) c.args.sessions.items c.requires.statements) (all_map (λ s. s.items) (λ s. All IsPlain s) c.args.sessions.items c.requires.plain) (returns-clause-runs g c)
+
+pub returns-clause-counted : goal.returns-clause-counted
+returns-clause-counted g c =
+    let j = g.W.World.journal in
+    let f = g.W.World.faults in
+    counted_more (j c.args.world.now) (j c.run_piece.new.world) (j c.run_others.new.world) (f c.args.world.now) (f c.run_piece.new.world) (f c.run_others.new.world) c.run_piece.ensures.counted c.run_others.ensures.counted
