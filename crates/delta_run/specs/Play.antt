@@ -7,7 +7,8 @@ use Rattle.script_text.specs.declared.script.Script.{Script}
 use Rattle.script_text.specs.declared.script.Header.{Header}
 use Rattle.script_text.specs.declared.script.Header.TheVariants.{Table}
 use Rattle.report.specs.Replies.{printed}
-use Rattle.session_runs.specs.Run.{Program, Runs, FollowsItems, IsSerial}
+use Rattle.session_runs.specs.Run.{Program, Runs, IsSerial}
+use Rattle.session_runs.specs.Order.{FollowsItems}
 
 abbrev pub table_in : Header → TableSpec
 table_in (Table spec) = spec
@@ -19,11 +20,11 @@ program_of s = record { table = table_in s.header; sessions = map (λ x. x.state
 abbrev pub names_in : Script → List (List ℕ)
 names_in s = map (λ x. x.name) s.sessions
 
--- the program ran with these replies: each by the statement's own calls, in the order of the schedule, and each version serial
+-- the program ran with these replies: each by the statement's own calls, in the order of the schedule, and the journal lawful
 pub record Ran (p : Program) (before after : Option (List JournalEntry)) (replies : List (List Reply)) : Type 0 where
   pub runs : Runs p before after replies
   pub follows : FollowsItems p before after
-  pub serial : IsSerial p before after
+  pub serial : IsSerial p before after replies
 
 -- the script ran, and the text is that of the replies
 abbrev pub Plays : Script → Option (List JournalEntry) → Option (List JournalEntry) → List ℕ → Type 0

@@ -1,5 +1,6 @@
 // A script is run and its replies are printed.
 ghost use Rattle.std.specs.Prelude.{◌≡◌, ◌≤◌, length, map, All, IfOk, OnErr};
+ghost use Rattle.actor_core.specs.Faults.{FaultsAreCounted};
 ghost use Rattle.script_text.specs.Fit.{IsFit};
 ghost use Rattle.delta_run.specs.Play.{Plays, MayRun, program_of};
 
@@ -36,6 +37,7 @@ pub fn play<W: World>(alloc: Global, script: Script, world: &mut W) -> Result<Ve
     requires { IsFit script }
     ensures ok { IfOk result (λ text. Plays script (W.journal world.old) (W.journal world.new) text.items) }
     ensures err { OnErr result (MayRun (program_of script) (W.journal world.old) (W.journal world.new)) }
+    ensures counted { FaultsAreCounted (W.journal world.old) (W.journal world.new) (W.faults world.old) (W.faults world.new) }
 {
     let Script {
         attempts,

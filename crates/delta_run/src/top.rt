@@ -1,6 +1,7 @@
 // The top call.
 ghost use Rattle.std.specs.Prelude.{◌≡◌, ◌≢◌, ◌≤◌, length, None, IfOk, IfErr};
 ghost use Rattle.edge_api.specs.Streams.{ReadsAll};
+ghost use Rattle.actor_core.specs.Faults.{FaultsAreCounted};
 ghost use Rattle.script_text.specs.Scripts.{SpellsScript};
 ghost use Rattle.script_text.specs.Fit.{IsFit};
 ghost use Rattle.delta_run.specs.declared.status.Status.{Status as AStatus};
@@ -78,7 +79,8 @@ fn serve<S: Source, K: Sink, W: World>(
     sink: &mut K,
     world: &mut W,
 ) -> Status
-    ensures { EndsAs result (S.left source.old) (S.left source.new) (S.faults source.old) (S.faults source.new) (W.journal world.old) (W.journal world.new) (K.written sink.old) (K.written sink.new) (K.faults sink.old) (K.faults sink.new) }
+    ensures ends { EndsAs result (S.left source.old) (S.left source.new) (S.faults source.old) (S.faults source.new) (W.journal world.old) (W.journal world.new) (K.written sink.old) (K.written sink.new) (K.faults sink.old) (K.faults sink.new) }
+    ensures counted { FaultsAreCounted (W.journal world.old) (W.journal world.new) (W.faults world.old) (W.faults world.new) }
 {
     let script = match read_script(alloc, source) {
         Ok(script) => script,
@@ -147,9 +149,10 @@ pub fn run_step<S: Source, K: Sink, E: Sink, W: World>(
     errors: &mut E,
     world: W,
 ) -> Finished<W>
-    ensures { (s : AStatus) × (result.status ≡ code_of s)
+    ensures ends { (s : AStatus) × (result.status ≡ code_of s)
         × EndsAs s (S.left source.old) (S.left source.new) (S.faults source.old) (S.faults source.new) (W.journal world) (W.journal result.world) (K.written sink.old) (K.written sink.new) (K.faults sink.old) (K.faults sink.new)
         × Says (E.written errors.old) (E.written errors.new) (E.faults errors.old) (E.faults errors.new) (text_of s) }
+    ensures counted { FaultsAreCounted (W.journal world) (W.journal result.world) (W.faults world) (W.faults result.world) }
 {
     let mut world = world;
     let status = serve(alloc, source, sink, &mut world);
@@ -163,14 +166,7 @@ pub fn run_step<S: Source, K: Sink, E: Sink, W: World>(
 
 /// The whole work of the program by the words of its command line. The runtime and the gate are for commands that run
 /// sessions in threads, and there are none yet.
-pub fn run<
-    R: Threads + Wait + Sync,
-    S: Source,
-    K: Sink,
-    E: Sink,
-    W: World + Send,
-    G: Gate + Sync,
->(
+pub fn run<R: Threads + Wait + Sync, S: Source, K: Sink, E: Sink, W: World + Send, G: Gate + Sync>(
     _rt: &R,
     alloc: Global,
     words: &[Text],
@@ -185,6 +181,7 @@ pub fn run<
         × Says (E.written errors.old) (E.written errors.new) (E.faults errors.old) (E.faults errors.new) (text_of s) }
     ensures no_words { words_of words.now ≡ None → (result.status ≡ 2) × IsIdle (W.journal world) (W.journal result.world) (K.written sink.old) (K.written sink.new) × (S.left source.new ≡ S.left source.old)
         × Says (E.written errors.old) (E.written errors.new) (E.faults errors.old) (E.faults errors.new) (text_of status.NoWords) }
+    ensures counted { FaultsAreCounted (W.journal world) (W.journal result.world) (W.faults world) (W.faults result.world) }
 {
     match read_words(words) {
         Some(Words::Step) => run_step(alloc, source, sink, errors, world),

@@ -3,7 +3,7 @@ use Rattle.op_types.specs.declared.statement.Statement.{Statement}
 use Rattle.script_text.specs.declared.script.SessionScript.{SessionScript}
 use Rattle.script_text.specs.Places.{column_count}
 use Rattle.delta_run.specs.Play.{MayRun, program_of}
-use Rattle.delta_run.proofs.Lists.{few_statements, as_many, items_within, on_err}
+use Rattle.delta_run.proofs.Lists.{few_statements, plain_statements, some_columns, as_many, items_within, on_err}
 use Rattle.delta_run.proofs.play.play.Goals as goal
 
 pub run_program-requires-clause-statements : goal.run_program-requires-clause-statements
@@ -21,3 +21,9 @@ run_program-requires-clause-items g c =
 
 pub returns-clause-err : goal.returns-clause-err
 returns-clause-err g c = on_err c.print_replies.result _ (inr (c.in_ok-replies.replies.items, search rules))
+
+pub run_program-requires-clause-plain : goal.run_program-requires-clause-plain
+run_program-requires-clause-plain g c =
+    let vs = c.in_ok-names.field-0.statements.items in
+    let same : map (λ (v : Vec Statement Global). v.items) vs ≡ map (λ (s : SessionScript). s.statements) c.args.script.sessions = search rules in
+    plain_statements (column_count c.args.script.header) (some_columns c.args.script.header c.requires.header) c.args.script.sessions vs same c.requires.each
