@@ -43,7 +43,7 @@ second_equal Equal s e = e
 second_equal Less s e = cc
 second_equal Greater s e = cc
 
-paths_apart : (xs ys : List ℕ) → order xs ys ≡ Equal → xs ≡ ys
+pub paths_apart : (xs ys : List ℕ) → order xs ys ≡ Equal → xs ≡ ys
 paths_apart [] [] e = refl
 paths_apart [] (y ∷ ys) e = cc
 paths_apart (x ∷ xs) [] e = cc
@@ -80,7 +80,7 @@ stands_first : (k : List ℕ) (xs : List (List ℕ)) → AllByRecursion (λ y. o
 stands_first k [] all = refl
 stands_first k (x ∷ xs) all = ap (λ (b : Bool). if b then file x ∷ placed (file k) (files_of xs) else file k ∷ file x ∷ files_of xs) (back_less x k all.0)
 
-below_all : (k x : List ℕ) (xs : List (List ℕ)) → order k x ≡ Less → AllByRecursion (λ y. order x y ≡ Less) xs → AllByRecursion (λ y. order k y ≡ Less) xs
+pub below_all : (k x : List ℕ) (xs : List (List ℕ)) → order k x ≡ Less → AllByRecursion (λ y. order x y ≡ Less) xs → AllByRecursion (λ y. order k y ≡ Less) xs
 below_all k x [] is all = tt
 below_all k x (y ∷ ys) is all = (nat_list_cmp_total.trans k x y is all.0, below_all k x ys is all.1)
 
