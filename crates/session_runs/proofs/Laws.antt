@@ -30,6 +30,7 @@ use Rattle.sessions.specs.Session.{AllTagged, AllAnswered, AnsweredTo, Stops, pl
 use Rattle.table_laws.specs.Runs as laws
 use Rattle.table_laws.specs.Folded.{EachVersionIsFolded}
 use Rattle.table_laws.specs.Laws.{EachVersionIsSerial, EachStatementCommitsOnce, FirstVersionIsEmpty, EachCommitLands, EachReplyCommitted, EachReplyRead}
+use Rattle.table_laws.specs.Refused.{EachRefusalCommitsNothing}
 use Rattle.session_runs.specs.Run.{Program, IsPlain, IsLong, IsLongRow, AllReplied, IsLawful, IsSerial, Runs, scripts_of, counted, statement_of, reply_of}
 use Rattle.session_runs.proofs.Replies.{all_at}
 
@@ -181,10 +182,10 @@ grown_is (Some old) after part journal is now h =
     let none = some_same old [] is in
     sym (ap (λ (l : Entries). l ++ part) none) ∙ some_same (old ++ part) journal (sym h ∙ now)
 
-pub is_serial : EachVersionIsSerial → EachStatementCommitsOnce → FirstVersionIsEmpty → EachCommitLands → EachReplyCommitted → EachReplyRead → EachVersionIsFolded → RowsReadBack → (p : Program) (before after : Told) (replies : List (List Reply)) → p.limit ≤ 1000000 → length p.sessions ≤ 64
+pub is_serial : EachVersionIsSerial → EachStatementCommitsOnce → FirstVersionIsEmpty → EachCommitLands → EachReplyCommitted → EachReplyRead → EachVersionIsFolded → EachRefusalCommitsNothing → RowsReadBack → (p : Program) (before after : Told) (replies : List (List Reply)) → p.limit ≤ 1000000 → length p.sessions ≤ 64
     → All (λ s. length s ≤ 4096) p.sessions → All (λ s. All IsPlain s) p.sessions → Runs p before after replies → IsSerial p before after replies
 unfolding Runs IsSerial
-is_serial serial once empty lands committed read folded back p before after replies small few short plain runs is_before journal is_after moments legal are =
+is_serial serial once empty lands committed read folded refused back p before after replies small few short plain runs is_before journal is_after moments legal are =
     let scripts = scripts_of p in
     let part_is = grown_is before after runs.0 journal is_before is_after runs.1 in
     let answered = subst (λ (l : Entries). laws.IsAnswered p.limit (statement_of scripts) (λ t. None) (reply_of replies) l) (part_is ∙ sym are) (each_answered p.limit scripts runs.0 replies runs.2) in
@@ -207,4 +208,5 @@ is_serial serial once empty lands committed read folded back p before after repl
       committed = committed p.limit (statement_of scripts) (λ t. None) (reply_of replies) moments legal run;
       read = read p.limit (statement_of scripts) (λ t. None) (reply_of replies) moments legal run;
       folded = folded p.limit (statement_of scripts) (λ t. None) (reply_of replies) moments legal run;
+      refused = refused p.limit (statement_of scripts) (λ t. None) (reply_of replies) moments legal run;
     }

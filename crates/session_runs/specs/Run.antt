@@ -18,6 +18,7 @@ use Rattle.sessions.specs.Session.{plans_from, AnsweredTo, Remains, IsReady}
 use Rattle.table_laws.specs.Conflicts.{Level}
 use Rattle.table_laws.specs.Folded.{RowsAreFolded}
 use Rattle.table_laws.specs.Laws.{VersionsAreSerial, CommitsOnce, FirstIsEmpty, CommitsLand, RepliesCommitted, RepliesRead}
+use Rattle.table_laws.specs.Refused.{RefusedCommitNothing}
 
 -- what runs: the table that is made first, by actor 0, then the sessions' statements in the order of the items
 pub record Program : Type 0 where
@@ -87,7 +88,8 @@ AllBegin limit actor (statements ∷ scripts) (s ∷ sessions) = Begins actor li
 
 -- Each version follows from the one before at both levels, no statement commits twice, and version 0 has no rows. Each commit above version 0 was put at
 -- each version above the one that was read, and lost only to other statements. Replies of commits and of rows say what was committed and what was read.
--- The rows of a version are what the operations up to it give, done one after another
+-- The rows of a version are what the operations up to it give, done one after another. A refused statement has committed no version, but where its refusal
+-- leaves that open and the put of its commit was answered by a fault
 pub record IsLawful (scripts : List (List Statement)) (replies : List (List Reply)) (moments : List Moment) : Type 0 where
   pub serial : (level : Level) → VersionsAreSerial level (statement_of scripts) moments
   pub once : CommitsOnce moments
@@ -96,6 +98,7 @@ pub record IsLawful (scripts : List (List Statement)) (replies : List (List Repl
   pub committed : RepliesCommitted (statement_of scripts) (reply_of replies) moments
   pub read : RepliesRead (statement_of scripts) (reply_of replies) moments
   pub folded : RowsAreFolded (statement_of scripts) moments
+  pub refused : RefusedCommitNothing (statement_of scripts) (reply_of replies) moments
 
 -- from an empty journal on, every legal completion of the journal is lawful
 unfoldable pub IsSerial : Program → Option (List JournalEntry) → Option (List JournalEntry) → List (List Reply) → Type 0

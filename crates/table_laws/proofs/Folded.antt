@@ -1,16 +1,16 @@
 -- Versions that are serial at the stricter level are a fold of their operations.
-use Rattle.std.proofs.Common.{◌≡◌, ℕ, zero, suc, ◌+◌, ◌-◌, ◌<◌, ◌^◌, Bool, true, false, not, List, [], ◌∷◌, ◌++◌, refl, sym, ◌∙◌, ap, subst, arith}
-use Rattle.std.specs.Prelude.{Option, Some, None}
+use Rattle.std.proofs.Common.{◌≡◌, ℕ, zero, suc, Bool, true, false, not, List, [], ◌++◌, refl, sym, ◌∙◌, ap, arith}
+use Rattle.std.specs.Prelude.{Option, Some}
 use Rattle.edge_api.specs.declared.call.Tag.{Tag}
-use Rattle.edge_api.specs.Journal.{Moment, entries_of}
+use Rattle.edge_api.specs.Journal.{Moment}
 use Rattle.op_types.specs.declared.statement.Statement.{Statement}
 use Rattle.table_rules.specs.Names.{commit_text}
 use Rattle.table_laws.specs.Bags.{Row, count_of, SameRows, without, only, others}
 use Rattle.table_laws.specs.Operations.{Operation, Insert, Change, Compact, operation_of, scope_of, result_of, operated}
 use Rattle.table_laws.specs.Conflicts.{Serializable}
 use Rattle.table_laws.specs.Serial.{missed}
-use Rattle.table_laws.specs.History.{Put, history, put_under, rows_at, IsCommitted}
-use Rattle.table_laws.specs.Laws.{statement_of, operation_by, Step, VersionsAreSerial, FirstIsEmpty}
+use Rattle.table_laws.specs.History.{Put, history, put_under, rows_at}
+use Rattle.table_laws.specs.Laws.{statement_of, operation_by, VersionsAreSerial, FirstIsEmpty}
 use Rattle.table_laws.specs.Folded.{done_by, folded, RowsAreFolded, EachVersionIsFolded}
 use Rattle.table_laws.proofs.Bags.{count_of-append, count_of-only, count_of-only-no, count_of-without}
 use Rattle.table_laws.proofs.Serial.{each_version_is_serial, first_version_is_empty}

@@ -30,7 +30,7 @@ use Rattle.table_laws.specs.Effects as effects
 use Rattle.table_laws.specs.Conflicts.{Level}
 use Rattle.table_laws.specs.History.{Put, put_under, body_of, put_if_free, puts_of, if_done, puts_at, history}
 use Rattle.table_laws.specs.Runs.{same_tag, own, or_first, listed_by, told_by, version_put, with_version, versions_put, first_given, GotIn, StoredIn}
-use Rattle.table_laws.proofs.Lawful.{Known, PutIn, NoPut, first_past, Knows, versions_down, AllWon, IsCommitOf, MayPut, IsFile, IsTable, IsCommit, LawfulBy, AllLawful}
+use Rattle.table_laws.proofs.Lawful.{Known, PutIn, NoPut, FoundMissing, first_past, Knows, versions_down, IsCommitOf, MayPut, IsFile, IsTable, IsCommit, LawfulBy, AllLawful}
 use Rattle.table_laws.proofs.Known.{knows_more}
 use Rattle.table_laws.proofs.Phases.{same_put}
 use Rattle.table_laws.proofs.Statements.{commit_put, data_put}
@@ -49,6 +49,12 @@ InPut ps n b = body_of (put_under ps n) ≡ Some b
 -- its session knows it, or it was put
 abbrev pub Sure : (Tag → List ℕ → List ℕ → Type 0) → Tag → List Put → List ℕ → List ℕ → Type 0
 Sure K tag ps n b = K tag n b ⊎ InPut ps n b
+
+-- the statement of a put made it
+pub record IsMadeIn (past : Entries) (n : List ℕ) (p : Put) : Type 0 where
+  pub answer : Answer
+  pub made : PutIn (own p.tag past) n p.body answer
+  pub landed : answer ≡ Taken → ⊥
 
 -- a statement stored it
 pub record IsPutBy (ps : List Put) (t : Tag) (n b : List ℕ) : Type 0 where
@@ -89,6 +95,17 @@ put_more t e past n b a h = by (same_tag t e.tag)
 
 put_now : (e : JournalEntry) (past : Entries) (n b : List ℕ) → e.call ≡ PutNew n b → PutIn (own e.tag (e ∷ past)) n b e.answer
 put_now e past n b is = subst (λ (c : Bool). PutIn (if c then e ∷ own e.tag past else own e.tag past) n b e.answer) (sym (same_tag-refl e.tag)) (inl (is, refl))
+
+-- a statement's newest entry found nothing, or its newest before
+missing_now : (t : Tag) (e : JournalEntry) (past : Entries) (n : List ℕ) → FoundMissing (own t (e ∷ past)) n → ((e.tag ≡ t) × (e.call ≡ Get n) × (e.answer ≡ Missing)) ⊎ ((e.tag ≡ t → ⊥) × FoundMissing (own t past) n)
+missing_now t e past n h = by (same_tag t e.tag) refl h
+  where
+    other : same_tag t e.tag ≡ false → e.tag ≡ t → ⊥
+    other is same = let bad : true ≡ false = sym (same_tag-refl t) ∙ ap (λ (u : Tag). same_tag t u) (sym same) ∙ is in cc
+
+    by : (c : Bool) → same_tag t e.tag ≡ c → FoundMissing (if c then e ∷ own t past else own t past) n → ((e.tag ≡ t) × (e.call ≡ Get n) × (e.answer ≡ Missing)) ⊎ ((e.tag ≡ t → ⊥) × FoundMissing (own t past) n)
+    by true is here = inl (sym (same_tag-is t e.tag is), here.0, here.1)
+    by false is there = inr (other is, there)
 
 -- a statement's puts of commits, after an entry that is none of them
 none_more : (t : Tag) (e : JournalEntry) (past : Entries) → (e.tag ≡ t → version_put e.call ≡ None) → versions_put (own t (e ∷ past)) ≡ versions_put (own t past)
@@ -261,9 +278,6 @@ module _ (level : Level) (K : Tag → List ℕ → List ℕ → Type 0) (script 
     pub knows : Knows level p.tag op start read s view (Sure K p.tag ps) (InPut ps) v
     pub started : first_past told_by (own p.tag past) ≡ Some start
     pub listed : first_past listed_by (own p.tag past) ≡ Some read
-    pub answer : Answer
-    pub made : PutIn (own p.tag past) (commit_text (suc v)) p.body answer
-    pub landed : answer ≡ Taken → ⊥
     pub tries : ℕ
     pub sum : read + tries ≡ suc v
     pub puts : versions_put (own p.tag past) ≡ versions_down read tries
@@ -279,6 +293,8 @@ module _ (level : Level) (K : Tag → List ℕ → List ℕ → Type 0) (script 
     pub agree : (n b : List ℕ) → body_at (object_at os n) ≡ Some b → InPut ps n b
     pub logs : (v : ℕ) → object_at os (commit_text v) ≡ None → put_under ps (commit_text v) ≡ None
     pub owned : (t : Tag) (start : ℕ) (q : Put) → IsTag t → put_under ps (data_text t start 0) ≡ Some q → (a : Answer) × PutIn (own t past) (data_text t start 0) q.body a
+    pub made : (n : List ℕ) (p : Put) → put_under ps n ≡ Some p → IsMadeIn past n p
+    pub missing : (t : Tag) (v : ℕ) (p : Put) → FoundMissing (own t past) (commit_text v) → put_under ps (commit_text v) ≡ Some p → p.tag ≡ t → ⊥
     pub got : (n b : List ℕ) → GotIn past n b → InPut ps n b
     pub stored : (t : Tag) (n b : List ℕ) → StoredIn (own t past) n b → IsPutBy ps t n b
     pub table : (p : Put) → put_under ps (commit_text 0) ≡ Some p → IsMade p
@@ -290,6 +306,8 @@ module _ (level : Level) (K : Tag → List ℕ → List ℕ → Type 0) (script 
     agree = λ n b h. cc;
     logs = λ v h. refl;
     owned = λ t start q is h. cc;
+    made = λ n p h. cc;
+    missing = λ t v p h k e. absurd h;
     got = λ n b h. absurd h;
     stored = λ t n b h. absurd h;
     table = λ p h. cc;
@@ -314,9 +332,6 @@ module _ (level : Level) (K : Tag → List ℕ → List ℕ → Type 0) (script 
     knows = knows_more level p.tag k.op k.start k.read k.s k.view (Sure K p.tag ps) (InPut ps) (Sure K p.tag qs) (InPut qs) v (sure_more K p.tag ps qs more) more k.knows;
     started = given_more told_by p.tag e past _ k.started;
     listed = given_more listed_by p.tag e past _ k.listed;
-    answer = k.answer;
-    made = put_more p.tag e past _ _ _ k.made;
-    landed = k.landed;
     tries = k.tries;
     sum = k.sum;
     puts = none_more p.tag e past quiet ∙ k.puts;
@@ -326,21 +341,30 @@ module _ (level : Level) (K : Tag → List ℕ → List ℕ → Type 0) (script 
     won = k.won;
   }
 
+  made_more : (past : Entries) (e : JournalEntry) (n : List ℕ) (p : Put) → IsMadeIn past n p → IsMadeIn (e ∷ past) n p
+  made_more past e n p m = record { answer = m.answer; made = put_more p.tag e past n p.body m.answer m.made; landed = m.landed }
+
   -- an entry that puts nothing
   unchanged : (past : Entries) (os : Objects) (ps : List Put) (e : JournalEntry) → Stands past os ps
       → ((n b : List ℕ) → e.call ≡ Get n → e.answer ≡ Body b → InPut ps n b)
+      → ((v : ℕ) → e.call ≡ Get (commit_text v) → e.answer ≡ Missing → put_under ps (commit_text v) ≡ None)
       → ((n b : List ℕ) → e.call ≡ PutNew n b → e.answer ≡ Stored → ⊥)
       → ((v : ℕ) (p : Put) → put_under ps (commit_text (suc v)) ≡ Some p → Committed past ps v p → e.tag ≡ p.tag → version_put e.call ≡ None) → Stands (e ∷ past) os ps
-  unchanged past os ps e s gets stores quiet = record {
+  unchanged past os ps e s gets misses stores quiet = record {
     agree = s.agree;
     logs = s.logs;
     owned = λ t start q is h. let o = s.owned t start q is h in (o.0, put_more t e past _ _ _ o.1);
+    made = λ n p h. made_more past e n p (s.made n p h);
+    missing = λ t v p h k same. elim (missing_now t e past (commit_text v) h) [ inl now ↦ not_there p (sym (misses v now.1 now.2) ∙ k) | inr before ↦ s.missing t v p before.1 k same ];
     got = λ n b h. elim h [ inl now ↦ gets n b now.0 now.1 | inr before ↦ s.got n b before ];
     stored = λ t n b h. elim (stored_now t e past n b h) [ inl now ↦ absurd (stores n b now.1 now.2) | inr before ↦ s.stored t n b before ];
     table = s.table;
     commits = λ v p small h. let k = s.commits v p small h in commit_more past ps ps [] e v p (sym (append-nil ps)) (λ n b k. k) (quiet v p h k) k;
     single = s.single;
   }
+    where
+      not_there : (p : Put) → None ≡ Some p → ⊥
+      not_there p h = cc
 
   -- the one put that is new, if it is a commit
   new_commit : (tag : Tag) (statement : Statement) (past : Entries) (name body : List ℕ) (v : ℕ) → suc v < 2 ^ 64 → MayPut level (K tag) tag statement past name body → name ≡ commit_text (suc v)
@@ -362,9 +386,10 @@ module _ (level : Level) (K : Tag → List ℕ → List ℕ → Type 0) (script 
   module _ (past : Entries) (os : Objects) (ps : List Put) (s : Stands past os ps) (tag : Tag) (statement : Statement) (is_statement : script tag ≡ Some statement) (name body : List ℕ) where
     not_lost : (v : ℕ) (q : Put) → put_under ps (commit_text (suc v)) ≡ Some q → Committed past ps v q → tag ≡ q.tag → IsCommitOf level (K tag) tag statement (own tag past) name body → ⊥
     not_lost v q old there same k =
-        let made = subst (λ (t : Tag). PutIn (own t past) (commit_text (suc v)) q.body there.answer) (sym same) there.made in
-        elim (k.lost (suc v) q.body there.answer made) [
-          | inl was_taken ↦ there.landed was_taken
+        let m = s.made (commit_text (suc v)) q old in
+        let made = subst (λ (t : Tag). PutIn (own t past) (commit_text (suc v)) q.body m.answer) (sym same) m.made in
+        elim (k.lost (suc v) q.body m.answer made) [
+          | inl was_taken ↦ m.landed was_taken
           | inr other ↦ other.2 (sym (some_same q.body other.0 (sym (ap body_of old) ∙ s.got (commit_text (suc v)) other.0 (own_got tag past _ _ other.1))))
         ]
 
@@ -461,6 +486,21 @@ module _ (level : Level) (K : Tag → List ℕ → List ℕ → Type 0) (script 
         mine (IsTable spec is_table is text) h = absurd (data_is_no_commit t start 0 0 (sym h ∙ is))
         mine (IsCommit k) h = absurd (data_is_no_commit t start 0 (suc k.version) (sym h ∙ k.is))
 
+    add_made : (n : List ℕ) (q : Put) → put_under more n ≡ Some q → IsMadeIn (the_entry ∷ past) n q
+    add_made n q h = elim (which n q h) [
+      | inl old ↦ made_more past the_entry n q (s.made n q old)
+      | inr new ↦ subst (λ (p : Put). IsMadeIn (the_entry ∷ past) n p) new.1 (record { answer = answer; made = put_now the_entry past n body (ap (λ (m : List ℕ). PutNew m body) new.0); landed = not_taken })
+    ]
+
+    add_missing : (t : Tag) (v : ℕ) (q : Put) → FoundMissing (own t (the_entry ∷ past)) (commit_text v) → put_under more (commit_text v) ≡ Some q → q.tag ≡ t → ⊥
+    add_missing t v q h k same = elim (missing_now t the_entry past (commit_text v) h) [
+      | inl now ↦ no_get (commit_text v) now.1
+      | inr before ↦ elim (which (commit_text v) q k) [ inl old ↦ s.missing t v q before.1 old same | inr new ↦ before.0 (ap (λ (p : Put). p.tag) new.1 ∙ same) ]
+    ]
+      where
+        no_get : (n : List ℕ) → PutNew name body ≡ Get n → ⊥
+        no_get n h = cc
+
     add_stored : (t : Tag) (n b : List ℕ) → StoredIn (own t (the_entry ∷ past)) n b → IsPutBy more t n b
     add_stored t n b h = elim (stored_now t the_entry past n b h) [
       | inl now ↦
@@ -499,9 +539,6 @@ module _ (level : Level) (K : Tag → List ℕ → List ℕ → Type 0) (script 
               (λ n b h. let p = s.stored tag n b h in still n b (ap body_of p.is ∙ ap (λ (b : List ℕ). Some b) p.body)) k.knows);
           started = given_more told_by tag the_entry past _ k.started;
           listed = given_more listed_by tag the_entry past _ k.listed;
-          answer = answer;
-          made = put_now the_entry past (commit_text (suc v)) body (ap (λ (n : List ℕ). PutNew n body) is);
-          landed = not_taken;
           tries = suc k.tries;
           sum = let sum = k.sum in let version = two.1 in omega arith;
           puts = one_more the_entry past (suc v) (ap (λ (n : List ℕ). version_put (PutNew n body)) is ∙ commit_put (suc v) body small)
@@ -539,15 +576,16 @@ module _ (level : Level) (K : Tag → List ℕ → List ℕ → Type 0) (script 
     ]
 
     added : Stands (the_entry ∷ past) now more
-    added = record { agree = add_agree; logs = add_logs; owned = add_owned; got = add_got; stored = add_stored; table = add_table; commits = add_commits; single = add_single }
+    added = record { agree = add_agree; logs = add_logs; owned = add_owned; made = add_made; missing = add_missing; got = add_got; stored = add_stored; table = add_table; commits = add_commits; single = add_single }
 
   module _ (past : Entries) (os : Objects) (ps : List Put) (s : Stands past os ps) where
     -- nothing is put
     idle : (e : JournalEntry) (now : Objects) (new : List Put) → now ≡ os → new ≡ [] → ((n b : List ℕ) → e.call ≡ Get n → e.answer ≡ Body b → InPut ps n b)
+        → ((v : ℕ) → e.call ≡ Get (commit_text v) → e.answer ≡ Missing → put_under ps (commit_text v) ≡ None)
         → ((n b : List ℕ) → e.call ≡ PutNew n b → e.answer ≡ Stored → ⊥)
         → ((v : ℕ) (p : Put) → put_under ps (commit_text (suc v)) ≡ Some p → Committed past ps v p → e.tag ≡ p.tag → version_put e.call ≡ None) → Stands (e ∷ past) now (ps ++ new)
-    idle e now new same none gets stores silent =
-        let here = unchanged past os ps e s gets stores silent in
+    idle e now new same none gets misses stores silent =
+        let here = unchanged past os ps e s gets misses stores silent in
         subst (λ (o : Objects). Stands (e ∷ past) o (ps ++ new)) (sym same)
         (subst (λ (q : List Put). Stands (e ∷ past) os q) (sym (ap (λ (q : List Put). ps ++ q) none ∙ append-nil ps)) here)
 
@@ -568,6 +606,13 @@ module _ (level : Level) (K : Tag → List ℕ → List ℕ → Type 0) (script 
 
     get_shows : (name : List ℕ) (a : Answer) → Answers a (found (object_at os name)) → (n b : List ℕ) → Get name ≡ Get n → a ≡ Body b → InPut ps n b
     get_shows name a right n b is body = subst (λ (m : List ℕ). InPut ps m b) (same_name name n is) (s.agree name b (body_found (object_at os name) a b right body))
+
+    none_found : (o : Option Object) (a : Answer) → Answers a (found o) → a ≡ Missing → o ≡ None
+    none_found None a right is = refl
+    none_found (Some x) a right is = let none : Answers Missing (Body x.body) = subst (λ (b : Answer). Answers b (Body x.body)) is right in cc
+
+    get_misses : (name : List ℕ) (a : Answer) → Answers a (found (object_at os name)) → (v : ℕ) → Get name ≡ Get (commit_text v) → a ≡ Missing → put_under ps (commit_text v) ≡ None
+    get_misses name a right v is none = s.logs v (subst (λ (m : List ℕ). object_at os m ≡ None) (same_name name (commit_text v) is) (none_found (object_at os name) a right none))
 
     not_stored : (a : Answer) → Answers a Taken → a ≡ Stored → ⊥
     not_stored Fault right is = cc
@@ -597,7 +642,7 @@ module _ (level : Level) (K : Tag → List ℕ → List ℕ → Type 0) (script 
       at_free : (a : Answer) (u : Bool) → object_at os name ≡ None → Answers a Stored → Next a u None
       at_free Stored u free right = added past os ps s tag name body Stored clock statement is_statement may free (λ h. cc)
       at_free Fault true free right = added past os ps s tag name body Fault clock statement is_statement may free (λ h. cc)
-      at_free Fault false free right = idle (entry_of Fault) os [] refl refl (λ n b h k. cc) (λ n b h k. cc) (quiet past os ps s tag statement is_statement name body may)
+      at_free Fault false free right = idle (entry_of Fault) os [] refl refl (λ n b h k. cc) (λ v h k. cc) (λ n b h k. cc) (quiet past os ps s tag statement is_statement name body may)
       at_free (Body b) u free right = cc
       at_free Missing u free right = cc
       at_free Taken u free right = cc
@@ -607,7 +652,7 @@ module _ (level : Level) (K : Tag → List ℕ → List ℕ → Type 0) (script 
       at_free Waited u free right = cc
 
       at_there : (a : Answer) (u : Bool) (o : Object) → Answers a Taken → Next a u (Some o)
-      at_there a u o right = idle (entry_of a) (after_answer a u os os) (if_done a u []) (same_after a u os) (same_if_done a u) (λ n b h k. cc) (λ n b h k. not_stored a right k) (quiet past os ps s tag statement is_statement name body may)
+      at_there a u o right = idle (entry_of a) (after_answer a u os os) (if_done a u []) (same_after a u os) (same_if_done a u) (λ n b h k. cc) (λ v h k. cc) (λ n b h k. not_stored a right k) (quiet past os ps s tag statement is_statement name body may)
 
       at_either : (a : Answer) (u : Bool) (o : Option Object) → object_at os name ≡ o → Answers a (stored o) → Next a u o
       at_either a u None is right = at_free a u is right
@@ -615,13 +660,13 @@ module _ (level : Level) (K : Tag → List ℕ → List ℕ → Type 0) (script 
 
     call_step : (tag : Tag) (call : Call) (a : Answer) (clock : ℕ) (u : Bool) (statement : Statement) → script tag ≡ Some statement → LawfulBy level (K tag) tag statement (own tag past) call → Answers a (answer_of os clock call)
         → Stands (record { tag = tag; call = call; answer = a } ∷ past) (after_answer a u os (effect_of os clock call)) (ps ++ if_done a u (puts_of os tag clock call))
-    call_step tag (Get name) a clock u statement is_statement lawful right = idle (record { tag = tag; call = Get name; answer = a }) (after_answer a u os os) (if_done a u []) (same_after a u os) (same_if_done a u) (get_shows name a right) (λ n b h k. cc) (λ v p h k is. refl)
+    call_step tag (Get name) a clock u statement is_statement lawful right = idle (record { tag = tag; call = Get name; answer = a }) (after_answer a u os os) (if_done a u []) (same_after a u os) (same_if_done a u) (get_shows name a right) (get_misses name a right) (λ n b h k. cc) (λ v p h k is. refl)
     call_step tag (PutNew name body) a clock u statement is_statement lawful right = at_either tag name body clock statement is_statement lawful a u (object_at os name) refl right
     call_step tag (Replace name body) a clock u statement is_statement lawful right = absurd lawful
-    call_step tag (ListNames prefix) a clock u statement is_statement lawful right = idle (record { tag = tag; call = ListNames prefix; answer = a }) (after_answer a u os os) (if_done a u []) (same_after a u os) (same_if_done a u) (λ n b h k. cc) (λ n b h k. cc) (λ v p h k is. refl)
+    call_step tag (ListNames prefix) a clock u statement is_statement lawful right = idle (record { tag = tag; call = ListNames prefix; answer = a }) (after_answer a u os os) (if_done a u []) (same_after a u os) (same_if_done a u) (λ n b h k. cc) (λ v h k. cc) (λ n b h k. cc) (λ v p h k is. refl)
     call_step tag (Delete name) a clock u statement is_statement lawful right = absurd lawful
-    call_step tag Now a clock u statement is_statement lawful right = idle (record { tag = tag; call = Now; answer = a }) (after_answer a u os os) (if_done a u []) (same_after a u os) (same_if_done a u) (λ n b h k. cc) (λ n b h k. cc) (λ v p h k is. refl)
-    call_step tag (Wait time) a clock u statement is_statement lawful right = idle (record { tag = tag; call = Wait time; answer = a }) (after_answer a u os os) (if_done a u []) (same_after a u os) (same_if_done a u) (λ n b h k. cc) (λ n b h k. cc) (λ v p h k is. refl)
+    call_step tag Now a clock u statement is_statement lawful right = idle (record { tag = tag; call = Now; answer = a }) (after_answer a u os os) (if_done a u []) (same_after a u os) (same_if_done a u) (λ n b h k. cc) (λ v h k. cc) (λ n b h k. cc) (λ v p h k is. refl)
+    call_step tag (Wait time) a clock u statement is_statement lawful right = idle (record { tag = tag; call = Wait time; answer = a }) (after_answer a u os os) (if_done a u []) (same_after a u os) (same_if_done a u) (λ n b h k. cc) (λ v h k. cc) (λ n b h k. cc) (λ v p h k is. refl)
 
   -- an object that is no commit may go
   pub gone : (past : Entries) (os now : Objects) (ps : List Put) (name : List ℕ) → Stands past os ps → ((v : ℕ) → name ≡ commit_text v → ⊥)
@@ -630,6 +675,8 @@ module _ (level : Level) (K : Tag → List ℕ → List ℕ → Type 0) (script 
     agree = λ n b h. by n b (bytes_eq name n) refl h;
     logs = λ v h. s.logs v (sym (others (commit_text v) (no_commit v)) ∙ h);
     owned = s.owned;
+    made = s.made;
+    missing = s.missing;
     got = s.got;
     stored = s.stored;
     table = s.table;

@@ -5,11 +5,12 @@ use Rattle.edge_api.specs.declared.call.Tag.{Tag}
 use Rattle.edge_api.specs.declared.call.Call.{Call}
 use Rattle.edge_api.specs.declared.call.Call.TheVariants.{Get, PutNew, Put as Replace, List as ListNames, Delete, Now, Wait}
 use Rattle.edge_api.specs.declared.call.Answer.{Answer}
-use Rattle.edge_api.specs.declared.call.Answer.TheVariants.{Taken}
+use Rattle.edge_api.specs.declared.call.Answer.TheVariants.{Fault, Missing, Taken}
 use Rattle.row_base.specs.declared.row.ScannedFile.{ScannedFile}
 use Rattle.op_types.specs.declared.statement.Statement.{Statement}
 use Rattle.op_types.specs.declared.statement.TableSpec.{TableSpec}
 use Rattle.op_types.specs.declared.statement.Statement.TheVariants.{Table}
+use Rattle.op_types.specs.declared.refusal.Refusal.{Refusal}
 use Rattle.op_types.specs.declared.reply.Reply.{Reply}
 use Rattle.op_types.specs.declared.reply.Reply.TheVariants.{Created, Committed, Rows, Killed, Refused}
 use Rattle.table_rules.specs.Names.{commit_text, data_text}
@@ -23,6 +24,7 @@ use Rattle.table_laws.specs.Operations.{Operation, operation_of, scope_of, got_f
 use Rattle.table_laws.specs.Effects.{may_match, new_rows, effect_of}
 use Rattle.table_laws.specs.Conflicts.{Level, FileClash, first_clash}
 use Rattle.table_laws.specs.Runs.{or_first, listed_by, told_by, versions_put, GotIn, StoredIn, LoadedTo}
+use Rattle.table_laws.specs.Refused.{IsUnknown}
 
 -- a statement's session or its own entries got it or stored it
 abbrev pub Known : (List ℕ → List ℕ → Type 0) → Entries → List ℕ → List ℕ → Type 0
@@ -42,6 +44,20 @@ IsLost past name body answer = (answer ≡ Taken) ⊎ ((other : List ℕ) × Got
 
 abbrev pub AllLost : Entries → Type 0
 AllLost past = (v : ℕ) (body : List ℕ) (answer : Answer) → PutIn past (commit_text v) body answer → IsLost past (commit_text v) body answer
+
+-- the newest entry found nothing under the name
+abbrev pub FoundMissing : Entries → List ℕ → Type 0
+FoundMissing [] name = ⊥
+FoundMissing (e ∷ past) name = (e.call ≡ Get name) × (e.answer ≡ Missing)
+
+-- a commit's put that is not lost was answered by a fault
+abbrev pub AllInDoubt : Entries → Type 0
+AllInDoubt past = (v : ℕ) (body : List ℕ) (answer : Answer) → PutIn past (commit_text v) body answer → IsLost past (commit_text v) body answer ⊎ (answer ≡ Fault)
+
+-- what a refusal says of the commits put: one that is not lost was found missing at last, or answered by a fault where the refusal leaves it open
+abbrev pub ClaimsNothing : Entries → Refusal → Type 0
+ClaimsNothing past r =
+    (v : ℕ) (body : List ℕ) (answer : Answer) → PutIn past (commit_text v) body answer → IsLost past (commit_text v) body answer ⊎ (FoundMissing past (commit_text v) ⊎ (IsUnknown r × (answer ≡ Fault)))
 
 -- what the entries give first
 abbrev pub first_past : (Call → Answer → Option ℕ) → Entries → Option ℕ
@@ -118,7 +134,7 @@ ClaimOf K tag statement past Created = Unit {0}
 ClaimOf K tag statement past (Committed version read attempts checkpoint) = ClaimsCommit tag past version read attempts
 ClaimOf K tag statement past (Rows version rows files_read files_live) = ClaimsRows K past version rows files_read files_live
 ClaimOf K tag statement past Killed = Unit {0}
-ClaimOf K tag statement past (Refused r) = Unit {0}
+ClaimOf K tag statement past (Refused r) = ClaimsNothing past r
 
 abbrev pub Claim : (List ℕ → List ℕ → Type 0) → Tag → Statement → Option Reply → Entries → Type 0
 Claim K tag statement None past = Unit {0}

@@ -15,3 +15,4 @@ pub mod Effects
 pub mod Tries
 pub mod Serial
 pub mod Folded
+pub mod Refused

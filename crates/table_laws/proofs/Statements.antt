@@ -27,7 +27,7 @@ use Rattle.call_phases.specs.Phases.{Entries}
 use Rattle.committer.specs.declared.judge.Verdict.TheVariants as verdict
 use Rattle.txn_machine.specs.declared.judge.CommitJudge.{CommitJudge}
 use Rattle.txn_machine.specs.Judging.{verdict_of}
-use Rattle.txn_machine.specs.Phases.{IsCutShort, Ends, Cut, commit_of, commit_version, newest, missing, AtLoad, AtFiles}
+use Rattle.txn_machine.specs.Phases.{IsCutShort, Ends, Cut, commit_of, newest, missing, AtLoad, AtFiles}
 use Rattle.txn_machine.specs.Texts.{read_commit, read_file}
 use Rattle.txn_machine.specs.Answered.{Kept, retention, version_limit, IsSelected, IsReplied, load_from, load_count, load_base, names_of, AtCommit, committed, Appends, Selects, AfterLoad, Loads, Makes, AfterListing, Answered}
 use Rattle.table_laws.specs.Bags.{Row}
@@ -36,9 +36,9 @@ use Rattle.table_laws.specs.Operations as operations
 use Rattle.table_laws.specs.Effects.{effect_of}
 use Rattle.table_laws.specs.Conflicts.{Level}
 use Rattle.table_laws.specs.Runs.{or_first, listed_by, told_by, version_put, with_version, versions_put, GotIn, StoredIn, LoadedTo, KeptPart}
-use Rattle.table_laws.proofs.Lawful.{Known, NoPut, AllLost, first_past, judge_of, AllScanned, Cleared, Knows, versions_down, AllWon, ClaimOf, ClaimsRows, Claim, IsFile, IsTable, IsCommit, AllLawful}
+use Rattle.table_laws.proofs.Lawful.{Known, NoPut, AllLost, first_past, judge_of, AllScanned, Cleared, Knows, versions_down, AllWon, ClaimsRows, Claim, IsFile, IsTable, IsCommit, AllLawful}
 use Rattle.table_laws.proofs.Known.{loaded_more, knows_more, scanned_more, scanned_push}
-use Rattle.table_laws.proofs.Phases.{same_put, now_no_put, list_no_put, none_put, no_commit_put, lost_other, lost_to, given_more, known_more, Fresh, fresh_get, ended, was_cut, if_read, at_now, at_list, at_get, at_put_new, at_load, at_attempt}
+use Rattle.table_laws.proofs.Phases.{same_put, now_no_put, list_no_put, none_put, no_commit_put, lost_other, lost_to, given_more, known_more, Fresh, fresh_get, none_lost, ended_lost, was_cut, if_read, at_now, at_list, at_get, at_put_new, at_load, at_attempt}
 use Rattle.table_laws.proofs.Texts.{append_says}
 
 -- a commit's put is one of its version, and a data file's of none
@@ -124,6 +124,7 @@ module _ (level : Level) (K : List ℕ → List ℕ → Type 0) (tag : Tag) (op 
     pub attempts : (limit : ℕ) (reply : Option Reply) (left : ℕ) (past es : Entries) → read + 1 + (0 + left) < 2 ^ 64 → P 0 past → AtCommit reply left start (read + 1) j (committed read) es → AllLawful level K tag statement reply past es
     attempts limit reply left past es small p h =
         at_attempt level K tag statement j (record { start = start; retention = retention; first = read + 1 }) (committed read) P
+        (λ lost past p. p.all_lost)
         (λ lost past e is p. record {
           before = p.before;
           next = p.next;
@@ -199,8 +200,8 @@ module _ (level : Level) (K : List ℕ → List ℕ → Type 0) (tag : Tag) (lim
   appends : (rows : List Row) → rows_of_text (text_of_rows rows) ≡ Some rows → (start read : ℕ) (reply : Option Reply) (s : Snapshot) (past es : Entries) → read < version_limit → LoadedTo (Known K past) (suc read) s → Fresh start read past
       → Appends tag limit rows start read reply es → AllLawful level K tag (Insert rows) reply past es
   appends rows faithful start read reply s past es small loaded fresh h =
-      at_put_new level K tag (Insert rows) (data_text tag start 0) (text_of_rows rows) reply _ _ _ past es (IsFile start refl fresh.none) h
-      (λ e rest put is on. ended level K tag (Insert rows) _ reply (e ∷ past) rest on)
+      at_put_new level K tag (Insert rows) (data_text tag start 0) (text_of_rows rows) reply _ _ _ past es (none_lost past fresh.none) (IsFile start refl fresh.none) h
+      (λ e rest put is on. ended_lost level K tag (Insert rows) _ reply (e ∷ past) rest (still e put) on)
       (λ e rest put is on.
       attempts level K tag (operations.Insert rows) start read s (λ p. []) (Insert rows) refl (record { text = text_of_add (data_text tag start 0); makes_table = false })
       (append_says tag start rows (λ p. []) s.files) (λ k body winner clear t reads. refl)
@@ -218,11 +219,14 @@ module _ (level : Level) (K : List ℕ → List ℕ → Type 0) (tag : Tag) (lim
           previous = (loaded.1, known_more K past e (commit_text read) loaded.1 loaded.4);
           clear = λ k from to. absurd (let a : read ≤ k = from in let b : k < read = to in omega arith);
         };
-        all_lost = lost_other e past (λ v b other. data_is_no_commit tag start 0 v (let two = same_put _ _ _ _ (sym put ∙ other) in two.0)) (λ v b a other. absurd (fresh.none _ _ _ other));
+        all_lost = still e put;
         puts = other_put e past (PutNew (data_text tag start 0) (text_of_rows rows)) put (data_put tag start (text_of_rows rows)) ∙ no_versions past fresh.none;
         won = λ k from to. absurd (let a : read ≤ k = from in let b : k < read = to in omega arith);
       }) on)
-      (λ e rest put is on. ended level K tag (Insert rows) _ reply (e ∷ past) rest on)
+      (λ e rest put is on. ended_lost level K tag (Insert rows) _ reply (e ∷ past) rest (still e put) on)
+    where
+      still : (e : JournalEntry) → e.call ≡ PutNew (data_text tag start 0) (text_of_rows rows) → AllLost (e ∷ past)
+      still e put = lost_other e past (λ v b other. data_is_no_commit tag start 0 v (let two = same_put _ _ _ _ (sym put ∙ other) in two.0)) (none_lost past fresh.none)
 
   -- a select: its files
   files : (reply : Option Reply) (start read : ℕ) (s : Snapshot) (next : List ScannedFile → Entries → Type 0) (done paths : List (List ℕ)) (got : List ScannedFile) (past es : Entries)
@@ -231,12 +235,13 @@ module _ (level : Level) (K : List ℕ → List ℕ → Type 0) (tag : Tag) (lim
       → AllLawful level K tag Select reply past es
   files reply start read s next done [] got past es scanned loaded fresh h k = k got past es (subst (λ (ps : List (List ℕ)). AllScanned (Known K past) ps got) (sym (append-nil done)) scanned) loaded fresh h
   files reply start read s next done (path ∷ paths) got past es scanned loaded fresh h k =
-      at_get level K tag Select _ _ path reply _ past es h (λ text e rest call answer on.
-      if_read level K tag Select _ reply (λ rows. AtFiles reply paths (got ++ record { path = path; rows = rows } ∷ []) next) (e ∷ past) rest (read_file text) on (λ rows reads on.
+      at_get level K tag Select _ _ path reply _ past es (none_lost past fresh.none) h (λ text e rest call answer on.
+      let later = fresh_get start read past e path call fresh in
+      if_read level K tag Select _ reply (λ rows. AtFiles reply paths (got ++ record { path = path; rows = rows } ∷ []) next) (e ∷ past) rest (read_file text) (none_lost (e ∷ past) later.none) on (λ rows reads on.
       files reply start read s next (done ++ path ∷ []) paths (got ++ record { path = path; rows = rows } ∷ []) (e ∷ past) rest
       (scanned_push (Known K (e ∷ past)) done got path (record { path = path; rows = rows }) (scanned_more (Known K past) (Known K (e ∷ past)) (known_more K past e) done got scanned) (text, inr (inl (call, answer)), reads))
       (loaded_more (Known K past) (Known K (e ∷ past)) (known_more K past e) (suc read) s loaded)
-      (fresh_get start read past e path call fresh) on
+      later on
       (λ all past' rest' sure l f on'. k all past' rest' (subst (λ (ps : List (List ℕ)). AllScanned (Known K past') ps all) (append_assoc done (path ∷ []) paths) sure) l f on')))
 
   selects : (start read : ℕ) (reply : Option Reply) (s : Snapshot) (past es : Entries) → LoadedTo (Known K past) (suc read) s → Fresh start read past → Selects tag limit read reply s es → AllLawful level K tag Select reply past es
@@ -251,16 +256,16 @@ module _ (level : Level) (K : List ℕ → List ℕ → Type 0) (tag : Tag) (lim
       claim got past scanned l f (Some (Rows v rows fr fl)) h =
           subst (λ (n : ℕ). ClaimsRows K past n rows fr fl) (sym h.0) (record { listed = f.listed; s = s; loaded = l; got = got; scanned = scanned; sorts = h.1; files_read = h.2; files_live = h.3 })
       claim got past scanned l f (Some Killed) h = tt
-      claim got past scanned l f (Some (Refused r)) h = tt
+      claim got past scanned l f (Some (Refused r)) h = absurd h
 
       by : (got : List ScannedFile) (past rest : Entries) → AllScanned (Known K past) (paths_of s.files) got → LoadedTo (Known K past) (suc read) s → Fresh start read past → rest ≡ [] → IsReplied (IsSelected read (length s.files) got) reply ⊎ IsCutShort reply
           → AllLawful level K tag Select reply past rest
       by got past rest scanned l f none (inl replied) = subst (λ (es : Entries). AllLawful level K tag Select reply past es) (sym none) (claim got past scanned l f reply replied)
-      by got past rest scanned l f none (inr short) = was_cut level K tag Select reply past rest (none, short)
+      by got past rest scanned l f none (inr short) = was_cut level K tag Select reply past rest (none_lost past f.none) (none, short)
 
   loaded_then : (statement : Statement) → ((rows : List Row) → statement ≡ Insert rows → rows_of_text (text_of_rows rows) ≡ Some rows) → (start read : ℕ) (reply : Option Reply) (s : Snapshot) (past es : Entries) → read < version_limit → LoadedTo (Known K past) (suc read) s → Fresh start read past
       → AfterLoad tag limit statement start read reply s es → AllLawful level K tag statement reply past es
-  loaded_then (Table spec) faithful start read reply s past es small loaded fresh h = ended level K tag (Table spec) refusal.TableThere reply past es h
+  loaded_then (Table spec) faithful start read reply s past es small loaded fresh h = ended_lost level K tag (Table spec) refusal.TableThere reply past es (none_lost past fresh.none) h
   loaded_then (Insert rows) faithful start read reply s past es small loaded fresh h = appends rows (faithful rows refl) start read reply s past es small loaded fresh h
   loaded_then Select faithful start read reply s past es small loaded fresh h = selects start read reply s past es loaded fresh h
 
@@ -276,12 +281,12 @@ module _ (level : Level) (K : List ℕ → List ℕ → Type 0) (tag : Tag) (lim
   loads : (kept : Option Kept) → KeptPart K kept → (statement : Statement) → ((rows : List Row) → statement ≡ Insert rows → rows_of_text (text_of_rows rows) ≡ Some rows)
       → (start : ℕ) (l : List Listed) (reply : Option Reply) (o : Option ℕ) (past es : Entries) → NoPut past → first_past told_by past ≡ Some start → ((v : ℕ) → o ≡ Some v → first_past listed_by past ≡ Some v)
       → Loads tag limit kept statement start l reply o es → AllLawful level K tag statement reply past es
-  loads kept held statement faithful start l reply None past es none started seen h = ended level K tag statement refusal.NoTable reply past es h
+  loads kept held statement faithful start l reply None past es none started seen h = ended_lost level K tag statement refusal.NoTable reply past es (none_lost past none) h
   loads kept held statement faithful start l reply (Some v) past es none started seen h = by (nat_lt v version_limit) refl h
     where
       from : v < version_limit → (o : Option ℕ) → MatchOption o (AtLoad reply (load_count kept v) (load_from kept v) (load_base kept v) (AfterLoad tag limit statement start v reply) es) (λ k. Ends reply (refusal.LogGone (commit_text k)) es)
           → AllLawful level K tag statement reply past es
-      from small (Some k) on = ended level K tag statement _ reply past es on
+      from small (Some k) on = ended_lost level K tag statement _ reply past es (none_lost past none) on
       from small None on =
           let base = base_known kept v held in
           at_load level K tag statement start v reply (load_count kept v) (load_from kept v) (load_base kept v) _ past es
@@ -292,7 +297,7 @@ module _ (level : Level) (K : List ℕ → List ℕ → Type 0) (tag : Tag) (lim
       cut_or : v < version_limit → Cut reply es
           ⊎ MatchOption (missing l (load_from kept v) (load_count kept v)) (AtLoad reply (load_count kept v) (load_from kept v) (load_base kept v) (AfterLoad tag limit statement start v reply) es) (λ k. Ends reply (refusal.LogGone (commit_text k)) es)
           → AllLawful level K tag statement reply past es
-      cut_or small (inl short) = was_cut level K tag statement reply past es short
+      cut_or small (inl short) = was_cut level K tag statement reply past es (none_lost past none) short
       cut_or small (inr on) = from small (missing l (load_from kept v) (load_count kept v)) on
 
       by : (b : Bool) → nat_lt v version_limit ≡ b
@@ -302,24 +307,25 @@ module _ (level : Level) (K : List ℕ → List ℕ → Type 0) (tag : Tag) (lim
           (Ends reply (refusal.Unsupported Versions) es)
           → AllLawful level K tag statement reply past es
       by true e on = cut_or (grind (arith, nat_tests)) on
-      by false e on = ended level K tag statement _ reply past es on
+      by false e on = ended_lost level K tag statement _ reply past es (none_lost past none) on
 
   -- the making of a table
-  makes : (spec : TableSpec) (start : ℕ) (reply : Option Reply) (o : Option ℕ) (past es : Entries) → Makes tag limit spec.columns start reply o es → AllLawful level K tag (Table spec) reply past es
-  makes spec start reply (Some v) past es h = ended level K tag (Table spec) refusal.TableThere reply past es h
-  makes spec start reply None past es h =
-      at_attempt level K tag (Table spec) (record { text = text_of_columns (names_of spec.columns); makes_table = true }) (record { start = start; retention = retention; first = 0 }) (λ l. Created) (λ lost past. lost ≡ 0)
-      (λ lost past e is p. p)
-      (λ lost past small p. let zero_is : 0 + lost ≡ 0 = omega arith in IsTable spec refl (ap commit_text zero_is) refl)
+  makes : (spec : TableSpec) (start : ℕ) (reply : Option Reply) (o : Option ℕ) (past es : Entries) → NoPut past → Makes tag limit spec.columns start reply o es → AllLawful level K tag (Table spec) reply past es
+  makes spec start reply (Some v) past es none h = ended_lost level K tag (Table spec) refusal.TableThere reply past es (none_lost past none) h
+  makes spec start reply None past es none h =
+      at_attempt level K tag (Table spec) (record { text = text_of_columns (names_of spec.columns); makes_table = true }) (record { start = start; retention = retention; first = 0 }) (λ l. Created) (λ lost past. (lost ≡ 0) × AllLost past)
+      (λ lost past p. p.1)
+      (λ lost past e is p. (p.0, lost_other e past (no_commit_put e Now is now_no_put) p.1))
+      (λ lost past small p. let first = p.0 in let zero_is : 0 + lost ≡ 0 = omega arith in IsTable spec refl (ap commit_text zero_is) refl)
       (λ lost past e f body winner put got answer why clear small p. cc)
       (λ lost past e l put answer version attempts small p. tt)
       (λ lost past e f l put got answer version attempts small p. tt)
-      reply limit 0 [] past es (omega arith) refl h
+      reply limit 0 [] past es (omega arith) (refl, none_lost past none) h
 
   after_listing : (kept : Option Kept) → KeptPart K kept → (statement : Statement) → ((rows : List Row) → statement ≡ Insert rows → rows_of_text (text_of_rows rows) ≡ Some rows)
       → (start : ℕ) (reply : Option Reply) (l : List Listed) (past es : Entries) → NoPut past → first_past told_by past ≡ Some start → ((v : ℕ) → newest l ≡ Some v → first_past listed_by past ≡ Some v)
       → AfterListing tag limit kept statement start reply l es → AllLawful level K tag statement reply past es
-  after_listing kept held (Table spec) faithful start reply l past es none started seen h = makes spec start reply (newest l) past es h
+  after_listing kept held (Table spec) faithful start reply l past es none started seen h = makes spec start reply (newest l) past es none h
   after_listing kept held (Insert rows) faithful start reply l past es none started seen h = loads kept held (Insert rows) faithful start l reply (newest l) past es none started seen h
   after_listing kept held Select faithful start reply l past es none started seen h = loads kept held Select faithful start l reply (newest l) past es none started seen h
 
@@ -327,10 +333,11 @@ module _ (level : Level) (K : List ℕ → List ℕ → Type 0) (tag : Tag) (lim
   pub answered_lawful : (kept : Option Kept) → KeptPart K kept → (statement : Statement) → ((rows : List Row) → statement ≡ Insert rows → rows_of_text (text_of_rows rows) ≡ Some rows)
       → (es : Entries) (reply : Option Reply) → Answered tag limit kept statement es reply → AllLawful level K tag statement reply [] es
   answered_lawful kept held statement faithful es reply h =
-      at_now level K tag statement _ reply _ [] es h (λ start e rest now time on.
-      at_list level K tag statement _ log_prefix reply _ (e ∷ []) rest on (λ l f rest' call names on'.
+      at_now level K tag statement _ reply _ [] es (none_lost [] (λ n b a k. absurd k)) h (λ start e rest now time on.
+      let quiet = none_put e [] Now now now_no_put (λ n b a k. absurd k) in
+      at_list level K tag statement _ log_prefix reply _ (e ∷ []) rest (none_lost (e ∷ []) quiet) on (λ l f rest' call names on'.
       after_listing kept held statement faithful start reply l (f ∷ e ∷ []) rest'
-      (none_put f (e ∷ []) (ListNames log_prefix) call (list_no_put log_prefix) (none_put e [] Now now now_no_put (λ n b a k. absurd k)))
+      (none_put f (e ∷ []) (ListNames log_prefix) call (list_no_put log_prefix) quiet)
       (given_more told_by (e ∷ []) f start (ap (λ (x : Call). told_by x e.answer) now ∙ ap (λ (a : Answer). told_by Now a) time))
       (λ v is.
       ap (λ (x : Call). or_first (listed_by x e.answer) (listed_by f.call f.answer)) now

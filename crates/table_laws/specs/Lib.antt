@@ -8,3 +8,4 @@ pub mod History
 pub mod Runs
 pub mod Laws
 pub mod Folded
+pub mod Refused

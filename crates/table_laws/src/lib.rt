@@ -3,6 +3,7 @@
 
 ghost use Rattle.table_laws.specs.Laws.{EachVersionIsSerial, FirstVersionIsEmpty, EachStatementCommitsOnce, EachCommitLands, EachReplyCommitted, EachReplyRead};
 ghost use Rattle.table_laws.specs.Folded.{EachVersionIsFolded};
+ghost use Rattle.table_laws.specs.Refused.{EachRefusalCommitsNothing};
 
 /// Each committed version is the one before with one statement's operation done, whatever the schedule and whatever the
 /// store loses. The operation misses no row of its scope at the stricter level, and rows of blind appends alone at the
@@ -41,4 +42,10 @@ pub fn each_reply_committed()
 /// files.
 pub fn each_reply_read()
     ensures { EachReplyRead }
+{}
+
+/// A refused statement has committed no version, but where its refusal leaves that open: `OutcomeUnknown`, or `NoMemory`
+/// where the commit's put was answered by a fault.
+pub fn each_refusal_commits_nothing()
+    ensures { EachRefusalCommitsNothing }
 {}

@@ -10,6 +10,7 @@ use Rattle.actor_core.proofs.Faults.{counted_more}
 use Rattle.session_runs.proofs.Laws.{is_serial}
 use Rattle.line_texts.proofs.Laws.{rows_read_back}
 use Rattle.table_laws.proofs.Folded.{each_version_is_folded}
+use Rattle.table_laws.proofs.Refused.{each_refusal_commits_nothing}
 use Rattle.table_laws.proofs.Serial.{each_version_is_serial, each_statement_commits_once, first_version_is_empty, each_commit_lands, each_reply_committed, each_reply_read}
 use Rattle.session_runs.proofs.run_program.Goals as goal
 
@@ -59,7 +60,7 @@ returns-clause-serial g c =
     let j = g.W.World.journal in
     let lists = map (λ s. s.items) c.args.sessions.items in
     let few : length lists ≤ 64 = subst (λ (n : ℕ). n ≤ 64) (sym (length-map (λ s. s.items) c.args.sessions.items)) c.requires.sessions in
-    is_serial each_version_is_serial each_statement_commits_once first_version_is_empty each_commit_lands each_reply_committed each_reply_read each_version_is_folded rows_read_back (record { table = c.args.table; sessions = lists; limit = c.args.limit; items = c.args.items.now }) (j c.args.world.now) (j c.run_others.new.world)
+    is_serial each_version_is_serial each_statement_commits_once first_version_is_empty each_commit_lands each_reply_committed each_reply_read each_version_is_folded each_refusal_commits_nothing rows_read_back (record { table = c.args.table; sessions = lists; limit = c.args.limit; items = c.args.items.now }) (j c.args.world.now) (j c.run_others.new.world)
     c.give_replies.new.replies.items c.requires.few few (all_map (λ s. s.items) (λ s. length s ≤ 4096) c.args.sessions.items c.requires.statements) (all_map (λ s. s.items) (λ s. All IsPlain s) c.args.sessions.items c.requires.plain) (returns-clause-runs g c)
 
 pub returns-clause-counted : goal.returns-clause-counted
