@@ -6,6 +6,7 @@ mod fault;
 mod hybrid;
 mod laws;
 mod packing;
+mod room;
 mod unpacking;
 mod width;
 

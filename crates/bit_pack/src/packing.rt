@@ -5,6 +5,7 @@ ghost use Rattle.bit_pack.specs.Bits.{Packs, AppendsPacked, IsTooWide, most_valu
 ghost use Rattle.bit_pack.specs.Numbers.{packed_number, bytes_of};
 
 use crate::fault::PackFault;
+use crate::room::push_all;
 use crate::unpacking::check_count;
 use crate::width::at_width;
 use std::alloc::{AllocError, Global};
@@ -16,6 +17,9 @@ pub(crate) fn fit(width: usize, values: &[u32]) -> bool
         (EachIndex values.now (λ k. slice_index values.now k < 2 ^ width))
         (SomeIndex values.now (λ k. 2 ^ width ≤ slice_index values.now k)) }
 {
+    if width == 32 {
+        return true;
+    }
     let mut seen = 0;
     for value in values {
         seen |= *value;
@@ -53,20 +57,21 @@ fn rest<const W: usize>(low: u128, high: u128) -> u128
     }
 }
 
-/// Appends eight values, with the width known to the compiler.
+/// Appends eight values where there is room for their bytes, with the width known to the compiler.
 #[inline(always)]
-fn pack_group<const W: usize>(values: &[u32; 8], out: &mut Vec<u8>) -> Result<(), AllocError>
+fn pack_group<const W: usize>(values: &[u32; 8], out: &mut Vec<u8>)
     requires width { W ≤ 32 }
     requires fit { EachIndex values.now (λ k. slice_index values.now k < 2 ^ W) }
-    ensures ok { OnOk result (out.new.items ≡ out.old.items ++ bytes_of W (packed_number W values.now)) }
-    ensures succeeds { vec_len out.old + W ≤ vec_capacity out.old → IsOk result }
+    requires room { vec_len out.old + W ≤ vec_capacity out.old }
+    ensures items { out.new.items ≡ out.old.items ++ bytes_of W (packed_number W values.now) }
+    ensures len { vec_len out.new ≡ vec_len out.old + W }
+    ensures capacity { vec_capacity out.new ≡ vec_capacity out.old }
 {
     let low = four::<W>(values[0], values[1], values[2], values[3]);
     let high = four::<W>(values[4], values[5], values[6], values[7]);
     let half = W / 2;
-    out.extend_from_slice(&low.to_le_bytes()[..half])?;
-    out.extend_from_slice(&rest::<W>(low, high).to_le_bytes()[..W - half])?;
-    Ok(())
+    push_all(&low.to_le_bytes()[..half], out);
+    push_all(&rest::<W>(low, high).to_le_bytes()[..W - half], out);
 }
 
 /// Appends exactly `W` bytes that hold eight values of `W` bits; a refusal leaves `out` as it was.
@@ -81,10 +86,8 @@ pub fn pack8<const W: usize>(values: &[u32; 8], out: &mut Vec<u8>) -> Result<(),
         return Err(PackFault::Width { width: W as u8 });
     }
     out.reserve(W)?;
-    match pack_group::<W>(values, out) {
-        Ok(()) => Ok(()),
-        Err(_) => unreachable!(),
-    }
+    pack_group::<W>(values, out);
+    Ok(())
 }
 
 /// Eight values from a place on.
@@ -96,38 +99,36 @@ fn eight_at(values: &[u32], at: usize) -> [u32; 8]
     <[u32; 8]>::try_from(&values[at..at + 8]).unwrap()
 }
 
-/// Appends whole groups of eight values, the first ones.
+/// Appends whole groups of eight values, the first ones, where there is room for their bytes.
 #[inline(always)]
-fn pack_groups<const W: usize>(
-    values: &[u32],
-    groups: usize,
-    out: &mut Vec<u8>,
-) -> Result<(), AllocError>
+fn pack_groups<const W: usize>(values: &[u32], groups: usize, out: &mut Vec<u8>)
     requires width { W ≤ 32 }
     requires within { 8 * groups ≤ length values.now }
     requires few { groups ≤ most_values }
     requires fit { EachIndex values.now (λ k. slice_index values.now k < 2 ^ W) }
-    ensures { OnOk result (out.new.items ≡ out.old.items ++ bytes_of (groups * W) (packed_number W (take (8 * groups) values.now))) }
+    requires room { vec_len out.old + groups * W ≤ vec_capacity out.old }
+    ensures items { out.new.items ≡ out.old.items ++ bytes_of (groups * W) (packed_number W (take (8 * groups) values.now)) }
+    ensures len { vec_len out.new ≡ vec_len out.old + groups * W }
+    ensures capacity { vec_capacity out.new ≡ vec_capacity out.old }
 {
     for group in 0..groups {
-        pack_group::<W>(&eight_at(values, 8 * group), out)?;
+        pack_group::<W>(&eight_at(values, 8 * group), out);
     }
-    Ok(())
 }
 
-/// Appends fewer than eight values, in the fewest bytes.
-fn pack_few<const W: usize>(values: &[u32], out: &mut Vec<u8>) -> Result<(), AllocError>
+/// Appends fewer than eight values in the fewest bytes, where there is room for a whole group.
+fn pack_few<const W: usize>(values: &[u32], out: &mut Vec<u8>)
     requires width { W ≤ 32 }
     requires few { length values.now < 8 }
     requires fit { EachIndex values.now (λ k. slice_index values.now k < 2 ^ W) }
-    ensures { OnOk result (out.new.items ≡ out.old.items ++ bytes_of ((length values.now * W + 7) / 8) (packed_number W values.now)) }
+    requires room { vec_len out.old + W ≤ vec_capacity out.old }
+    ensures { out.new.items ≡ out.old.items ++ bytes_of ((length values.now * W + 7) / 8) (packed_number W values.now) }
 {
     let mut eight = [0; 8];
     eight[..values.len()].copy_from_slice(values);
     let end = out.len() + (values.len() * W).div_ceil(8);
-    pack_group::<W>(&eight, out)?;
+    pack_group::<W>(&eight, out);
     out.truncate(end);
-    Ok(())
 }
 
 /// Appends values in the fewest bytes.
@@ -138,8 +139,9 @@ fn pack_at<const W: usize>(values: &[u32], out: &mut Vec<u8>) -> Result<(), Allo
     ensures { OnOk result (out.new.items ≡ out.old.items ++ bytes_of ((length values.now * W + 7) / 8) (packed_number W values.now)) }
 {
     let groups = values.len() / 8;
-    pack_groups::<W>(values, groups, out)?;
-    pack_few::<W>(&values[8 * groups..], out)?;
+    out.reserve(groups * W + W)?;
+    pack_groups::<W>(values, groups, out);
+    pack_few::<W>(&values[8 * groups..], out);
     Ok(())
 }
 
