@@ -5,7 +5,7 @@ ghost use Rattle.bit_pack.specs.Bits.{Packs, AppendsPacked, IsTooWide, most_valu
 ghost use Rattle.bit_pack.specs.Numbers.{packed_number, bytes_of};
 
 use crate::fault::PackFault;
-use crate::room::push_all;
+use crate::room::{push_all, take_out};
 use crate::unpacking::check_count;
 use crate::width::at_width;
 use std::alloc::{AllocError, Global};
@@ -99,21 +99,22 @@ fn eight_at(values: &[u32], at: usize) -> [u32; 8]
     <[u32; 8]>::try_from(&values[at..at + 8]).unwrap()
 }
 
-/// Appends whole groups of eight values, the first ones, where there is room for their bytes.
+/// The list with whole groups of eight values behind it, the first ones, where there is room for their bytes.
 #[inline(always)]
-fn pack_groups<const W: usize>(values: &[u32], groups: usize, out: &mut Vec<u8>)
+fn pack_groups<const W: usize>(values: &[u32], groups: usize, mut out: Vec<u8>) -> Vec<u8>
     requires width { W ≤ 32 }
     requires within { 8 * groups ≤ length values.now }
     requires few { groups ≤ most_values }
     requires fit { EachIndex values.now (λ k. slice_index values.now k < 2 ^ W) }
-    requires room { vec_len out.old + groups * W ≤ vec_capacity out.old }
-    ensures items { out.new.items ≡ out.old.items ++ bytes_of (groups * W) (packed_number W (take (8 * groups) values.now)) }
-    ensures len { vec_len out.new ≡ vec_len out.old + groups * W }
-    ensures capacity { vec_capacity out.new ≡ vec_capacity out.old }
+    requires room { vec_len out + groups * W ≤ vec_capacity out }
+    ensures items { result.items ≡ out.items ++ bytes_of (groups * W) (packed_number W (take (8 * groups) values.now)) }
+    ensures len { vec_len result ≡ vec_len out + groups * W }
+    ensures capacity { vec_capacity result ≡ vec_capacity out }
 {
     for group in 0..groups {
-        pack_group::<W>(&eight_at(values, 8 * group), out);
+        pack_group::<W>(&eight_at(values, 8 * group), &mut out);
     }
+    out
 }
 
 /// Appends fewer than eight values in the fewest bytes, where there is room for a whole group.
@@ -140,7 +141,7 @@ fn pack_at<const W: usize>(values: &[u32], out: &mut Vec<u8>) -> Result<(), Allo
 {
     let groups = values.len() / 8;
     out.reserve(groups * W + W)?;
-    pack_groups::<W>(values, groups, out);
+    *out = pack_groups::<W>(values, groups, take_out(out));
     pack_few::<W>(&values[8 * groups..], out);
     Ok(())
 }

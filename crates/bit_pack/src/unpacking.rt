@@ -5,7 +5,7 @@ ghost use Rattle.bit_pack.specs.Bits.{value_at, Packed, Unpacks, most_values};
 ghost use Rattle.bit_pack.specs.Numbers.{number_in, fields};
 
 use crate::fault::PackFault;
-use crate::room::push_all;
+use crate::room::{push_all, take_out};
 use crate::width::at_width;
 use std::alloc::{AllocError, Global};
 
@@ -131,21 +131,22 @@ pub fn unpack8<const W: usize>(bytes: &[u8]) -> Option<[u32; 8]>
     }
 }
 
-/// Appends the values of whole groups of eight, where there is room for them.
+/// The list with the values of whole groups of eight behind it, where there is room for them.
 #[inline(always)]
-fn append_groups<const W: usize>(bytes: &[u8], groups: usize, out: &mut Vec<u32>)
+fn append_groups<const W: usize>(bytes: &[u8], groups: usize, mut out: Vec<u32>) -> Vec<u32>
     requires width { W ≤ 32 }
     requires within { groups * W ≤ length bytes.now }
     requires few { groups ≤ most_values }
-    requires room { vec_len out.old + 8 * groups ≤ vec_capacity out.old }
-    ensures items { out.new.items ≡ out.old.items ++ fields W (number_in bytes.now) 0 (8 * groups) }
-    ensures len { vec_len out.new ≡ vec_len out.old + 8 * groups }
-    ensures capacity { vec_capacity out.new ≡ vec_capacity out.old }
+    requires room { vec_len out + 8 * groups ≤ vec_capacity out }
+    ensures items { result.items ≡ out.items ++ fields W (number_in bytes.now) 0 (8 * groups) }
+    ensures len { vec_len result ≡ vec_len out + 8 * groups }
+    ensures capacity { vec_capacity result ≡ vec_capacity out }
 {
     for group in 0..groups {
         let at = group * W;
-        push_all(&unpack_group::<W>(&bytes[at..at + W]), out);
+        push_all(&unpack_group::<W>(&bytes[at..at + W]), &mut out);
     }
+    out
 }
 
 /// Appends the values from the place `first` on, up to the place `count`, one by one, where there is room for them.
@@ -175,7 +176,7 @@ fn append_at<const W: usize>(
 {
     let groups = count / 8;
     out.reserve(count)?;
-    append_groups::<W>(bytes, groups, out);
+    *out = append_groups::<W>(bytes, groups, take_out(out));
     append_rest(W, bytes, 8 * groups, count, out);
     Ok(())
 }

@@ -19,7 +19,7 @@ pack_group-requires-clause-room g c =
 
 pub loop-group-preserved : goal.loop-group-preserved
 loop-group-preserved g c = record {
-  items = groups_more g.row.W c.loop-group.group c.args.values.now c.args.out.now.items c.loop-group.out.items c.pack_group.new.out.items
+  items = groups_more g.row.W c.loop-group.group c.args.values.now c.args.out.items c.loop-group.out.items c.pack_group.new.out.items
       c.requires.fit (omega arith) c.loop-group.invariant.items
       (c.pack_group.ensures.items ∙ ap (λ (xs : List ℕ). c.loop-group.out.items ++ bytes_of g.row.W (packed_number g.row.W xs)) c.eight_at.ensures);
   len = omega arith;

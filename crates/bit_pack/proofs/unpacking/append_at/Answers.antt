@@ -10,7 +10,7 @@ append_groups-requires-clause-within g c =
 
 pub returns : goal.returns
 returns g c =
-    rest_joined g.row.W (number_in c.args.bytes.now) (8 * (c.args.count / 8)) c.args.count c.args.out.now.items c.append_groups.new.out.items c.append_rest.new.out.items
+    rest_joined g.row.W (number_in c.args.bytes.now) (8 * (c.args.count / 8)) c.args.count c.args.out.now.items c.append_groups.result.items c.append_rest.new.out.items
     (omega arith)
-    (c.append_groups.ensures.items ∙ ap (λ (xs : List ℕ). xs ++ fields g.row.W (number_in c.args.bytes.now) 0 (8 * (c.args.count / 8))) c.in_ok-reserve.ensures.items)
+    (c.append_groups.ensures.items ∙ ap (λ (xs : List ℕ). xs ++ fields g.row.W (number_in c.args.bytes.now) 0 (8 * (c.args.count / 8))) (c.take_out.ensures.items ∙ c.in_ok-reserve.ensures.items))
     c.append_rest.ensures

@@ -14,7 +14,7 @@ loop-group-preserved g c =
     let more : (c.loop-group.group + 1) * g.row.W ≤ c.args.groups * g.row.W = mul-le (c.loop-group.group + 1) g.row.W c.args.groups g.row.W (omega arith) (omega arith) in
     let within : c.loop-group.group * g.row.W + g.row.W ≤ length c.args.bytes.now = omega (arith, more) in
     record {
-      items = groups_step g.row.W c.loop-group.group c.args.bytes.now c.args.out.now.items c.loop-group.out.items c.push_all.new.out.items
+      items = groups_step g.row.W c.loop-group.group c.args.bytes.now c.args.out.items c.loop-group.out.items c.push_all.new.out.items
           (bytes_fit c.args.bytes.now c.type_inv.bytes) within c.loop-group.invariant.items
           (c.push_all.ensures.items ∙ ap (λ (xs : List ℕ). c.loop-group.out.items ++ xs) c.unpack_group.ensures);
       len = omega arith;
