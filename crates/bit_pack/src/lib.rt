@@ -12,7 +12,7 @@ mod width;
 
 pub use fault::PackFault;
 pub use hybrid::{read_hybrid, write_hybrid};
-pub use laws::one_reading;
+pub use laws::{one_fault, one_reading, one_unpacking};
 pub use packing::{pack, pack8};
 pub use unpacking::{MOST_VALUES, plain_value, unpack, unpack8};
 

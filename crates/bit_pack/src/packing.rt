@@ -77,6 +77,7 @@ fn pack_group<const W: usize>(values: &[u32; 8], out: &mut Vec<u8>)
 /// Appends exactly `W` bytes that hold eight values of `W` bits; a refusal leaves `out` as it was.
 pub fn pack8<const W: usize>(values: &[u32; 8], out: &mut Vec<u8>) -> Result<(), PackFault>
     requires { W ≤ 32 }
+    ensures fit { OnOk result (EachIndex values.now (λ k. slice_index values.now k < 2 ^ W)) }
     ensures ok { OnOk result (AppendsPacked W values.now out.old.items out.new.items) }
     ensures width { IfErr result (λ e. (asked : ℕ) → e ≡ PackFault.Width asked → (asked ≡ W) × SomeIndex values.now (λ k. 2 ^ W ≤ slice_index values.now k)) }
     ensures only { IfErr result (λ e. (e ≢ PackFault.Short) × (e ≢ PackFault.Count)) }
@@ -159,6 +160,7 @@ pub(crate) fn append_packed(width: u8, values: &[u32], out: &mut Vec<u8>) -> Res
 /// The fewest bytes that hold the values, each of `width` bits; the last byte is filled up with zeros.
 pub fn pack(alloc: Global, width: u8, values: &[u32]) -> Result<Vec<u8>, PackFault>
     ensures limits { OnOk result ((width ≤ 32) × (length values.now ≤ most_values)) }
+    ensures fit { OnOk result (EachIndex values.now (λ k. slice_index values.now k < 2 ^ width)) }
     ensures ok { IfOk result (λ bytes. Packs width values.now bytes.items) }
     ensures width { IfErr result (λ e. (asked : ℕ) → e ≡ PackFault.Width asked → (asked ≡ width) × IsTooWide width values.now) }
     ensures count { IfErr result (λ e. e ≡ PackFault.Count → (width ≤ 32) × (most_values < length values.now)) }
