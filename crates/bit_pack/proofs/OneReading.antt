@@ -21,7 +21,7 @@ one_length bytes a b m n p q =
 one_number : (bytes : List ℕ) (a b m n : ℕ) → IsHeader bytes a m → IsHeader bytes b n → m ≡ n
 one_number bytes a b m n p q = p.means ∙ ap (λ k. varint_number (take k bytes)) (one_length bytes a b m n p q) ∙ sym q.means
 
-one_packed : (w : ℕ) (bytes xs ys : List ℕ) → length xs ≡ length ys → Packed w bytes xs → Packed w bytes ys → xs ≡ ys
+pub one_packed : (w : ℕ) (bytes xs ys : List ℕ) → length xs ≡ length ys → Packed w bytes xs → Packed w bytes ys → xs ≡ ys
 one_packed w bytes xs ys same p q =
     same_lists xs ys same
     (λ k d lt. get_or_default xs k d 0 lt ∙ p.each k lt ∙ sym (q.each k (omega (arith, same))) ∙ get_or_default ys k 0 d (omega (arith, same)))
@@ -138,3 +138,40 @@ pub wide_apart : {w : ℕ} {bytes : List ℕ} {len : ℕ} {xs : List ℕ} → Ha
 wide_apart {w} {bytes} (b, n, h, few, within, wide) (run a m x p) =
     omega (arith, wide, p.narrow, p.means, ap (λ k. number_in (take (byte_width w) (drop k bytes))) (one_length bytes b a (2 * n) (2 * m) h p.header))
 wide_apart {w} {bytes} (b, n, h, few, within, wide) (stretch a g xs p) = omega (arith, one_number bytes b a (2 * n) (2 * g + 1) h p.header)
+
+-- what stops reading stops it at one place
+ends_here : {w : ℕ} {here rest tail : List ℕ} → Pieces w here rest tail → ((len : ℕ) (xs : List ℕ) → IsPiece w here len xs → ⊥) → here ≡ rest
+ends_here none apart = refl
+ends_here (more len first piece others) apart = absurd (apart len first piece)
+
+pub stops_apart : (w count : ℕ) (bytes : List ℕ) (F G : List ℕ → Type 0)
+    → ((rest : List ℕ) (len : ℕ) (xs : List ℕ) → F rest → IsPiece w rest len xs → ⊥)
+    → ((rest : List ℕ) (len : ℕ) (xs : List ℕ) → G rest → IsPiece w rest len xs → ⊥)
+    → ((rest : List ℕ) → F rest → G rest → ⊥)
+    → StopsAt w bytes count F → StopsAt w bytes count G → ⊥
+stops_apart w count bytes F G apart_f apart_g apart p q =
+    elim (in_line p.pieces q.pieces) [
+      | inl (tail, pieces, e) ↦
+          let same : p.rest ≡ q.rest = ends_here pieces (λ len xs piece. apart_f p.rest len xs p.fails piece) in
+          apart q.rest (subst F same p.fails) q.fails
+      | inr (tail, pieces, e) ↦
+          let same : q.rest ≡ p.rest = ends_here pieces (λ len xs piece. apart_g q.rest len xs q.fails piece) in
+          apart p.rest p.fails (subst G same q.fails)
+    ]
+
+pub large_short : (w : ℕ) (bytes : List ℕ) → HasLargeHeader bytes → EndsEarly w bytes → ⊥
+large_short w bytes (inl long) (inl cut) = omega (arith, long.within, cut.few)
+large_short w bytes (inl long) (inr (b, n, h, few, missing)) = long_apart bytes b n long h
+large_short w bytes (inr (a, m, k, large)) (inl cut) = cut_apart bytes a m cut k
+large_short w bytes (inr (a, m, k, large)) (inr (b, n, h, few, missing)) =
+    omega (arith, large, few, ap header_values (one_number bytes a b m n k h))
+
+pub large_wide : (w : ℕ) (bytes : List ℕ) → HasLargeHeader bytes → HasWideValue w bytes → ⊥
+large_wide w bytes (inl long) (b, n, h, few, within, wide) = long_apart bytes b (2 * n) long h
+large_wide w bytes (inr (a, m, k, large)) (b, n, h, few, within, wide) =
+    omega (arith, large, few, ap header_values (one_number bytes a b m (2 * n) k h) ∙ values_even n)
+
+pub short_wide : (w : ℕ) (bytes : List ℕ) → EndsEarly w bytes → HasWideValue w bytes → ⊥
+short_wide w bytes (inl cut) (b, n, h, few, within, wide) = cut_apart bytes b (2 * n) cut h
+short_wide w bytes (inr (a, m, k, small, missing)) (b, n, h, few, within, wide) =
+    omega (arith, missing, within, one_length bytes a b m (2 * n) k h, ap (λ i. header_bytes w i) (one_number bytes a b m (2 * n) k h) ∙ bytes_even w n)

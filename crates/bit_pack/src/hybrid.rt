@@ -195,6 +195,8 @@ fn append_zeros(count: usize, out: &mut Vec<u8>) -> Result<(), AllocError>
 
 /// The values as the hybrid: nothing for no values, one run where all are equal, and else one stretch.
 pub fn write_hybrid(alloc: Global, width: u8, values: &[u32]) -> Result<Vec<u8>, PackFault>
+    ensures limits { OnOk result ((width ≤ 32) × (length values.now ≤ most_values)) }
+    ensures fit { OnOk result (EachIndex values.now (λ k. slice_index values.now k < 2 ^ width)) }
     ensures ok { IfOk result (λ bytes. bytes.items ≡ hybrid_of width values.now) }
     ensures reads { IfOk result (λ bytes. Reads width bytes.items (length values.now) values.now) }
     ensures width { IfErr result (λ e. (asked : ℕ) → e ≡ PackFault.Width asked → (asked ≡ width) × IsTooWide width values.now) }

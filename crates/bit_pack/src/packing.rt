@@ -5,6 +5,7 @@ ghost use Rattle.bit_pack.specs.Bits.{Packs, AppendsPacked, IsTooWide, most_valu
 ghost use Rattle.bit_pack.specs.Numbers.{packed_number, bytes_of};
 
 use crate::fault::PackFault;
+use crate::room::{push_all, take_out};
 use crate::unpacking::check_count;
 use crate::width::at_width;
 use std::alloc::{AllocError, Global};
@@ -16,6 +17,9 @@ pub(crate) fn fit(width: usize, values: &[u32]) -> bool
         (EachIndex values.now (λ k. slice_index values.now k < 2 ^ width))
         (SomeIndex values.now (λ k. 2 ^ width ≤ slice_index values.now k)) }
 {
+    if width == 32 {
+        return true;
+    }
     let mut seen = 0;
     for value in values {
         seen |= *value;
@@ -53,25 +57,27 @@ fn rest<const W: usize>(low: u128, high: u128) -> u128
     }
 }
 
-/// Appends eight values, with the width known to the compiler.
+/// Appends eight values where there is room for their bytes, with the width known to the compiler.
 #[inline(always)]
-fn pack_group<const W: usize>(values: &[u32; 8], out: &mut Vec<u8>) -> Result<(), AllocError>
+fn pack_group<const W: usize>(values: &[u32; 8], out: &mut Vec<u8>)
     requires width { W ≤ 32 }
     requires fit { EachIndex values.now (λ k. slice_index values.now k < 2 ^ W) }
-    ensures ok { OnOk result (out.new.items ≡ out.old.items ++ bytes_of W (packed_number W values.now)) }
-    ensures succeeds { vec_len out.old + W ≤ vec_capacity out.old → IsOk result }
+    requires room { vec_len out.old + W ≤ vec_capacity out.old }
+    ensures items { out.new.items ≡ out.old.items ++ bytes_of W (packed_number W values.now) }
+    ensures len { vec_len out.new ≡ vec_len out.old + W }
+    ensures capacity { vec_capacity out.new ≡ vec_capacity out.old }
 {
     let low = four::<W>(values[0], values[1], values[2], values[3]);
     let high = four::<W>(values[4], values[5], values[6], values[7]);
     let half = W / 2;
-    out.extend_from_slice(&low.to_le_bytes()[..half])?;
-    out.extend_from_slice(&rest::<W>(low, high).to_le_bytes()[..W - half])?;
-    Ok(())
+    push_all(&low.to_le_bytes()[..half], out);
+    push_all(&rest::<W>(low, high).to_le_bytes()[..W - half], out);
 }
 
 /// Appends exactly `W` bytes that hold eight values of `W` bits; a refusal leaves `out` as it was.
 pub fn pack8<const W: usize>(values: &[u32; 8], out: &mut Vec<u8>) -> Result<(), PackFault>
     requires { W ≤ 32 }
+    ensures fit { OnOk result (EachIndex values.now (λ k. slice_index values.now k < 2 ^ W)) }
     ensures ok { OnOk result (AppendsPacked W values.now out.old.items out.new.items) }
     ensures width { IfErr result (λ e. (asked : ℕ) → e ≡ PackFault.Width asked → (asked ≡ W) × SomeIndex values.now (λ k. 2 ^ W ≤ slice_index values.now k)) }
     ensures only { IfErr result (λ e. (e ≢ PackFault.Short) × (e ≢ PackFault.Count)) }
@@ -81,10 +87,8 @@ pub fn pack8<const W: usize>(values: &[u32; 8], out: &mut Vec<u8>) -> Result<(),
         return Err(PackFault::Width { width: W as u8 });
     }
     out.reserve(W)?;
-    match pack_group::<W>(values, out) {
-        Ok(()) => Ok(()),
-        Err(_) => unreachable!(),
-    }
+    pack_group::<W>(values, out);
+    Ok(())
 }
 
 /// Eight values from a place on.
@@ -96,38 +100,37 @@ fn eight_at(values: &[u32], at: usize) -> [u32; 8]
     <[u32; 8]>::try_from(&values[at..at + 8]).unwrap()
 }
 
-/// Appends whole groups of eight values, the first ones.
+/// The list with whole groups of eight values behind it, the first ones, where there is room for their bytes.
 #[inline(always)]
-fn pack_groups<const W: usize>(
-    values: &[u32],
-    groups: usize,
-    out: &mut Vec<u8>,
-) -> Result<(), AllocError>
+fn pack_groups<const W: usize>(values: &[u32], groups: usize, mut out: Vec<u8>) -> Vec<u8>
     requires width { W ≤ 32 }
     requires within { 8 * groups ≤ length values.now }
     requires few { groups ≤ most_values }
     requires fit { EachIndex values.now (λ k. slice_index values.now k < 2 ^ W) }
-    ensures { OnOk result (out.new.items ≡ out.old.items ++ bytes_of (groups * W) (packed_number W (take (8 * groups) values.now))) }
+    requires room { vec_len out + groups * W ≤ vec_capacity out }
+    ensures items { result.items ≡ out.items ++ bytes_of (groups * W) (packed_number W (take (8 * groups) values.now)) }
+    ensures len { vec_len result ≡ vec_len out + groups * W }
+    ensures capacity { vec_capacity result ≡ vec_capacity out }
 {
     for group in 0..groups {
-        pack_group::<W>(&eight_at(values, 8 * group), out)?;
+        pack_group::<W>(&eight_at(values, 8 * group), &mut out);
     }
-    Ok(())
+    out
 }
 
-/// Appends fewer than eight values, in the fewest bytes.
-fn pack_few<const W: usize>(values: &[u32], out: &mut Vec<u8>) -> Result<(), AllocError>
+/// Appends fewer than eight values in the fewest bytes, where there is room for a whole group.
+fn pack_few<const W: usize>(values: &[u32], out: &mut Vec<u8>)
     requires width { W ≤ 32 }
     requires few { length values.now < 8 }
     requires fit { EachIndex values.now (λ k. slice_index values.now k < 2 ^ W) }
-    ensures { OnOk result (out.new.items ≡ out.old.items ++ bytes_of ((length values.now * W + 7) / 8) (packed_number W values.now)) }
+    requires room { vec_len out.old + W ≤ vec_capacity out.old }
+    ensures { out.new.items ≡ out.old.items ++ bytes_of ((length values.now * W + 7) / 8) (packed_number W values.now) }
 {
     let mut eight = [0; 8];
     eight[..values.len()].copy_from_slice(values);
     let end = out.len() + (values.len() * W).div_ceil(8);
-    pack_group::<W>(&eight, out)?;
+    pack_group::<W>(&eight, out);
     out.truncate(end);
-    Ok(())
 }
 
 /// Appends values in the fewest bytes.
@@ -138,8 +141,9 @@ fn pack_at<const W: usize>(values: &[u32], out: &mut Vec<u8>) -> Result<(), Allo
     ensures { OnOk result (out.new.items ≡ out.old.items ++ bytes_of ((length values.now * W + 7) / 8) (packed_number W values.now)) }
 {
     let groups = values.len() / 8;
-    pack_groups::<W>(values, groups, out)?;
-    pack_few::<W>(&values[8 * groups..], out)?;
+    out.reserve(groups * W + W)?;
+    *out = pack_groups::<W>(values, groups, take_out(out));
+    pack_few::<W>(&values[8 * groups..], out);
     Ok(())
 }
 
@@ -156,6 +160,7 @@ pub(crate) fn append_packed(width: u8, values: &[u32], out: &mut Vec<u8>) -> Res
 /// The fewest bytes that hold the values, each of `width` bits; the last byte is filled up with zeros.
 pub fn pack(alloc: Global, width: u8, values: &[u32]) -> Result<Vec<u8>, PackFault>
     ensures limits { OnOk result ((width ≤ 32) × (length values.now ≤ most_values)) }
+    ensures fit { OnOk result (EachIndex values.now (λ k. slice_index values.now k < 2 ^ width)) }
     ensures ok { IfOk result (λ bytes. Packs width values.now bytes.items) }
     ensures width { IfErr result (λ e. (asked : ℕ) → e ≡ PackFault.Width asked → (asked ≡ width) × IsTooWide width values.now) }
     ensures count { IfErr result (λ e. e ≡ PackFault.Count → (width ≤ 32) × (most_values < length values.now)) }

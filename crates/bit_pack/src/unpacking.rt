@@ -1,10 +1,11 @@
 //! Reading bit-packed values.
 
-ghost use Rattle.std.specs.Prelude.{◌≡◌, ◌≢◌, ℕ, ◌+◌, ◌-◌, ◌*◌, ◌/◌, ◌%◌, ◌^◌, ◌<◌, ◌≤◌, ◌↔◌, ◌++◌, length, IfSome, IsNone, IfOk, IfErr, OnOk};
+ghost use Rattle.std.specs.Prelude.{◌≡◌, ◌≢◌, ℕ, ◌+◌, ◌-◌, ◌*◌, ◌/◌, ◌%◌, ◌^◌, ◌<◌, ◌≤◌, ◌↔◌, ◌++◌, length, IfSome, IsNone, IfOk, IfErr, OnOk, vec_len, vec_capacity};
 ghost use Rattle.bit_pack.specs.Bits.{value_at, Packed, Unpacks, most_values};
 ghost use Rattle.bit_pack.specs.Numbers.{number_in, fields};
 
 use crate::fault::PackFault;
+use crate::room::{push_all, take_out};
 use crate::width::at_width;
 use std::alloc::{AllocError, Global};
 
@@ -130,43 +131,36 @@ pub fn unpack8<const W: usize>(bytes: &[u8]) -> Option<[u32; 8]>
     }
 }
 
-/// Appends the values of whole groups of eight.
+/// The list with the values of whole groups of eight behind it, where there is room for them.
 #[inline(always)]
-fn append_groups<const W: usize>(
-    bytes: &[u8],
-    groups: usize,
-    out: &mut Vec<u32>,
-) -> Result<(), AllocError>
+fn append_groups<const W: usize>(bytes: &[u8], groups: usize, mut out: Vec<u32>) -> Vec<u32>
     requires width { W ≤ 32 }
     requires within { groups * W ≤ length bytes.now }
     requires few { groups ≤ most_values }
-    ensures { OnOk result (out.new.items ≡ out.old.items ++ fields W (number_in bytes.now) 0 (8 * groups)) }
+    requires room { vec_len out + 8 * groups ≤ vec_capacity out }
+    ensures items { result.items ≡ out.items ++ fields W (number_in bytes.now) 0 (8 * groups) }
+    ensures len { vec_len result ≡ vec_len out + 8 * groups }
+    ensures capacity { vec_capacity result ≡ vec_capacity out }
 {
     for group in 0..groups {
         let at = group * W;
-        out.extend_from_slice(&unpack_group::<W>(&bytes[at..at + W]))?;
+        push_all(&unpack_group::<W>(&bytes[at..at + W]), &mut out);
     }
-    Ok(())
+    out
 }
 
-/// Appends the values from the place `first` on, up to the place `count`, one by one.
-fn append_rest(
-    width: usize,
-    bytes: &[u8],
-    first: usize,
-    count: usize,
-    out: &mut Vec<u32>,
-) -> Result<(), AllocError>
+/// Appends the values from the place `first` on, up to the place `count`, one by one, where there is room for them.
+fn append_rest(width: usize, bytes: &[u8], first: usize, count: usize, out: &mut Vec<u32>)
     requires width { width ≤ 32 }
     requires first { first ≤ count }
     requires within { count * width ≤ 8 * length bytes.now }
     requires few { count ≤ most_values }
-    ensures { OnOk result (out.new.items ≡ out.old.items ++ fields width (number_in bytes.now) first (count - first)) }
+    requires room { vec_len out.old + (count - first) ≤ vec_capacity out.old }
+    ensures { out.new.items ≡ out.old.items ++ fields width (number_in bytes.now) first (count - first) }
 {
     for place in first..count {
-        out.push(plain_value(width, bytes, place))?;
+        out.push_reserved(plain_value(width, bytes, place));
     }
-    Ok(())
 }
 
 /// Appends the first values of the bytes, so many.
@@ -181,8 +175,9 @@ fn append_at<const W: usize>(
     ensures { OnOk result (out.new.items ≡ out.old.items ++ fields W (number_in bytes.now) 0 count) }
 {
     let groups = count / 8;
-    append_groups::<W>(bytes, groups, out)?;
-    append_rest(W, bytes, 8 * groups, count, out)?;
+    out.reserve(count)?;
+    *out = append_groups::<W>(bytes, groups, take_out(out));
+    append_rest(W, bytes, 8 * groups, count, out);
     Ok(())
 }
 

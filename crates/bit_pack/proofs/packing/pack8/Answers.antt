@@ -10,5 +10,5 @@ returns-clause-ok g c =
     let size : g.row.W ≡ (length c.args.values.now * g.row.W + 7) / 8 = rw long (omega arith) in (
       bytes_of g.row.W p,
       Packs-bytes g.row.W c.args.values.now (bytes_of g.row.W p) c.if-not-fit.ensures (ap (λ k. bytes_of k p) size),
-      c.in-Ok.ensures.ok ∙ ap (λ (bs : List ℕ). bs ++ bytes_of g.row.W p) c.in_ok-reserve.ensures.items,
+      c.pack_group.ensures.items ∙ ap (λ (bs : List ℕ). bs ++ bytes_of g.row.W p) c.in_ok-reserve.ensures.items,
     )

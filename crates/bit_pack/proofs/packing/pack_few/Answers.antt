@@ -16,4 +16,4 @@ returns g c =
     let at : c.len.result + c.div_ceil.result ≡ length c.args.out.now.items + size = omega (arith, c.len.ensures, c.div_ceil.ensures, c.args.out.now.ok) in
     c.truncate.ensures.items
     ∙ truncated size p g.row.W (c.len.result + c.div_ceil.result) c.args.out.now.items c.pack_group.new.out.items at room
-    (rw c.copy_from_slice.ensures.after at (c.in_ok-pack_group.ensures.ok) ∙ ap (λ m. c.args.out.now.items ++ bytes_of g.row.W m) (few_padded g.row.W c.args.values.now c.requires.few))
+    (rw c.copy_from_slice.ensures.after at (c.pack_group.ensures.items) ∙ ap (λ m. c.args.out.now.items ++ bytes_of g.row.W m) (few_padded g.row.W c.args.values.now c.requires.few))

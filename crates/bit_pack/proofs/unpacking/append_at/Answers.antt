@@ -1,6 +1,6 @@
-use Rattle.std.proofs.Common.{◌≤◌, ◌*◌, ◌/◌, arith}
+use Rattle.std.proofs.Common.{List, ℕ, ◌≡◌, ◌++◌, ◌≤◌, ◌*◌, ◌/◌, ◌∙◌, ap, arith}
 use Rattle.std.proofs.lemmas.Nat.{mul-le}
-use Rattle.bit_pack.specs.Numbers.{number_in}
+use Rattle.bit_pack.specs.Numbers.{number_in, fields}
 use Rattle.bit_pack.proofs.Wholes.{rest_joined}
 use Rattle.bit_pack.proofs.unpacking.append_at.Goals as goal
 
@@ -10,5 +10,7 @@ append_groups-requires-clause-within g c =
 
 pub returns : goal.returns
 returns g c =
-    rest_joined g.row.W (number_in c.args.bytes.now) (8 * (c.args.count / 8)) c.args.count c.args.out.now.items c.append_groups.new.out.items c.append_rest.new.out.items
-    (omega arith) c.in_ok-append_groups.ensures c.in_ok-append_rest.ensures
+    rest_joined g.row.W (number_in c.args.bytes.now) (8 * (c.args.count / 8)) c.args.count c.args.out.now.items c.append_groups.result.items c.append_rest.new.out.items
+    (omega arith)
+    (c.append_groups.ensures.items ∙ ap (λ (xs : List ℕ). xs ++ fields g.row.W (number_in c.args.bytes.now) 0 (8 * (c.args.count / 8))) (c.take_out.ensures.items ∙ c.in_ok-reserve.ensures.items))
+    c.append_rest.ensures
