@@ -4,6 +4,7 @@
 mod appender;
 mod cursor;
 mod fault;
+mod laws;
 mod parts;
 mod skip;
 mod wire;
@@ -11,6 +12,7 @@ mod wire;
 pub use appender::Appender;
 pub use cursor::Cursor;
 pub use fault::{NoMemory, ThriftFault};
+pub use laws::{reading_is_exact, written_is_read};
 pub use wire::{Field, ListHead, Wire};
 
 #[cfg(test)]
