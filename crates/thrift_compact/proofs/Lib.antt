@@ -4,3 +4,4 @@ pub mod Standing
 pub mod ReadingLaws
 pub mod HeaderLaws
 pub mod SkippingLaws
+pub mod WritingLaws
