@@ -5,3 +5,4 @@ pub mod ReadingLaws
 pub mod HeaderLaws
 pub mod SkippingLaws
 pub mod WritingLaws
+pub mod PlainLemmas

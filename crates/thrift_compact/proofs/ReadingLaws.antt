@@ -22,7 +22,7 @@ continued_found byte ends value len e = absurd cc
 continued_found byte long value len e = absurd cc
 
 -- the front of the bytes is the varint's text
-IsFront : List ℕ → ℕ → ℕ → ℕ → Type 0
+unfoldable pub IsFront : List ℕ → ℕ → ℕ → ℕ → Type 0
 IsFront bytes most value len =
     (text : List ℕ) × (rest : List ℕ) × (bytes ≡ text ++ rest) × (length text ≡ len) × (len ≤ most) × IsVarint text value
 
@@ -39,7 +39,7 @@ front_more byte most high few value len bytes large means counted inner =
       inr (large, high, means, inner.5),
     )
 
-varint_found : (most : ℕ) (bytes : List ℕ) (value len : ℕ) → varint most bytes ≡ number value len → IsFront bytes most value len
+pub varint_found : (most : ℕ) (bytes : List ℕ) (value len : ℕ) → varint most bytes ≡ number value len → IsFront bytes most value len
 unfolding varint IsVarint IsFront
 varint_found zero bytes value len e = absurd cc
 varint_found (suc most) [] value len e = absurd cc

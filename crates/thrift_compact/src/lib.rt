@@ -6,6 +6,7 @@ mod cursor;
 mod fault;
 mod laws;
 mod parts;
+mod plain;
 mod skip;
 mod wire;
 
@@ -13,6 +14,7 @@ pub use appender::Appender;
 pub use cursor::Cursor;
 pub use fault::{NoMemory, ThriftFault};
 pub use laws::{reading_is_exact, written_is_read};
+pub use plain::plain_number;
 pub use wire::{Field, ListHead, Wire};
 
 #[cfg(test)]
