@@ -97,8 +97,7 @@ unfolding IsFront
 plain_spelled bytes value len e narrow =
     let front = front_spelled bytes value len e in
     let same : front.0 ≡ take len bytes = sym (ap (λ (bs : List ℕ). take len bs) front.2 ∙ take_at front.0 front.1 len front.3) in
-    let spelled : SpellsVarint front.0 value = record { varint = front.5; few = omega (arith, front.3, front.4); narrow = narrow } in
-    (
+    let spelled : SpellsVarint front.0 value = record { varint = front.5; few = omega (arith, front.3, front.4); narrow = narrow } in (
       subst (λ k. SpellsVarint (take len bytes) k) (sym (zigzag-unzigzag value)) (subst (λ (bs : List ℕ). SpellsVarint bs value) same spelled),
       omega (arith, ap length front.2, length-append front.0 front.1, front.3),
     )

@@ -29,27 +29,27 @@ IsFront bytes most value len =
 front_more : (byte most high few value len : ℕ) (bytes : List ℕ) → 128 ≤ byte → value ≡ byte % 128 + 128 * high → len ≡ suc few
     → IsFront bytes most high few → IsFront (byte ∷ bytes) (suc most) value len
 unfolding IsFront IsVarint
-front_more byte most high few value len bytes large means counted inner =
-    (
-      byte ∷ inner.0,
-      inner.1,
-      ap (λ (bs : List ℕ). byte ∷ bs) inner.2,
-      ap suc inner.3 ∙ sym counted,
-      omega (arith, counted, inner.4),
-      inr (large, high, means, inner.5),
-    )
+front_more byte most high few value len bytes large means counted inner = (
+  byte ∷ inner.0,
+  inner.1,
+  ap (λ (bs : List ℕ). byte ∷ bs) inner.2,
+  ap suc inner.3 ∙ sym counted,
+  omega (arith, counted, inner.4),
+  inr (large, high, means, inner.5),
+)
 
 pub varint_found : (most : ℕ) (bytes : List ℕ) (value len : ℕ) → varint most bytes ≡ number value len → IsFront bytes most value len
 unfolding varint IsVarint IsFront
 varint_found zero bytes value len e = absurd cc
 varint_found (suc most) [] value len e = absurd cc
 varint_found (suc most) (byte ∷ bytes) value len e = elim (cases_lt byte 128) [
-    inl small ↦
-    let one : number byte 1 ≡ number value len = rw (lt-ltb byte 128 small) at e in
-    (byte ∷ [], bytes, refl, cc, (let k : 1 ≡ len = cc in omega arith), inl (small, refl, cc))
-    | inr large ↦
-    let p = continued_found byte (varint most bytes) value len (rw (le-ltb byte 128 large) at e) in
-    front_more byte most p.0 p.1 value len bytes large p.3 p.4 (varint_found most bytes p.0 p.1 p.2) ]
+  | inl small ↦
+      let one : number byte 1 ≡ number value len = rw (lt-ltb byte 128 small) at e in
+      (byte ∷ [], bytes, refl, cc, (let k : 1 ≡ len = cc in omega arith), inl (small, refl, cc))
+  | inr large ↦
+      let p = continued_found byte (varint most bytes) value len (rw (le-ltb byte 128 large) at e) in
+      front_more byte most p.0 p.1 value len bytes large p.3 p.4 (varint_found most bytes p.0 p.1 p.2)
+]
 
 pub varint_again : (text rest : List ℕ) (value most : ℕ) → IsVarint text value → length text ≤ most → varint most (text ++ rest) ≡ number value (length text)
 unfolding varint continued IsVarint
@@ -74,8 +74,7 @@ pub varint_at_found : (bytes : List ℕ) (at value end : ℕ) → at ≤ length 
 unfolding varint_at IsFront
 varint_at_found bytes at value end within e =
     let p = here_found bytes at (varint 10 (drop at bytes)) value end e in
-    let front = varint_found 10 (drop at bytes) value p.0 p.1 in
-    (
+    let front = varint_found 10 (drop at bytes) value p.0 p.1 in (
       front.0,
       record { varint = front.5; few = omega (arith, front.3, front.4); narrow = p.2 },
       stands_make bytes at front.0 front.1 end within front.2 (omega (arith, front.3, p.3)),
@@ -92,8 +91,9 @@ varint_at_only bytes at value end text h s =
 
 pub zigzag-unzigzag : (n : ℕ) → zigzag (unzigzag n) ≡ n
 zigzag-unzigzag n = elim (cases_eq (n % 2) 0) [
-    inl even ↦ rw (eq-eqb (n % 2) 0 even) (omega arith)
-    | inr odd ↦ rw (ne_eqb (n % 2) 0 odd) (omega arith) ]
+  | inl even ↦ rw (eq-eqb (n % 2) 0 even) (omega arith)
+  | inr odd ↦ rw (ne_eqb (n % 2) 0 odd) (omega arith)
+]
 
 pub unzigzag-zigzag : (z : ℤ) → unzigzag (zigzag z) ≡ z
 unzigzag-zigzag (pos n) =
@@ -157,8 +157,7 @@ binary_found bytes at value end within e =
     let size = size_found bytes at p.0.0 p.0.1 within p.1 in
     let content = behind_found bytes p.0.1 p.0.0 q.0 q.1 in
     let counted : p.0.0 ≡ length value = sym content.0 ∙ ap length means in
-    let stands : Stands bytes p.0.1 value end = subst (λ k. Stands bytes p.0.1 value k) last (subst (λ (bs : List ℕ). Stands bytes p.0.1 bs q.0) means content.1) in
-    (
+    let stands : Stands bytes p.0.1 value end = subst (λ k. Stands bytes p.0.1 value k) last (subst (λ (bs : List ℕ). Stands bytes p.0.1 bs q.0) means content.1) in (
       size.0 ++ value,
       record { size = size.0; counted = subst (λ k. SpellsSize size.0 k) counted size.1; all = refl },
       stands_join bytes at p.0.1 end size.0 value size.2 stands,
@@ -174,6 +173,6 @@ binary_only bytes at value end text h s =
     let content : take (length value) (drop from bytes) ≡ value
     = ap (λ (bs : List ℕ). take (length value) bs) (front_of bytes from value end second) ∙ take_at value second.rest (length value) refl in
     bind_from (size_at bytes at) (λ n. behind bytes n.1 n.0 >>= λ to. Ok (take n.0 (drop n.1 bytes), to)) (length value, from)
-        (size_only bytes at (length value) from h.size h.counted (stands_first bytes at h.size value end split))
+    (size_only bytes at (length value) from h.size h.counted (stands_first bytes at h.size value end split))
     ∙ bind_from (behind bytes from (length value)) (λ to. Ok (take (length value) (drop from bytes), to)) end (behind_only bytes from (length value) end value refl second)
     ∙ ap (λ (bs : List ℕ). Ok (bs, end)) content

@@ -112,8 +112,7 @@ each_found bytes one spells finds zero at end within e = nothing_passed bytes at
 each_found bytes one spells finds (suc count) at end within e =
     let p = bind_ok (one at) (each_end one count) end e in
     let first = finds at p.0 within p.1 in
-    let others = each_found bytes one spells finds count p.0 end (size_of bytes at first.0 p.0 first.2).1 p.2 in
-    (
+    let others = each_found bytes one spells finds count p.0 end (size_of bytes at first.0 p.0 first.2).1 p.2 in (
       first.0 ++ others.0,
       (first.0, others.0, first.1, others.1, refl),
       stands_join bytes at p.0 end first.0 others.0 first.2 others.2,
@@ -138,8 +137,7 @@ elements_found : (bytes : List ℕ) (element : Wire → ℕ → Result ℕ Thrif
 elements_found bytes element spells finds at end within e =
     let p = bind_ok (list_at bytes at) (λ head. each_end (element head.0.wire) head.0.count head.1) end e in
     let head = list_found bytes at p.0.0 p.0.1 p.1 in
-    let rest = each_found bytes (element p.0.0.wire) (spells p.0.0.wire) (finds p.0.0.wire) p.0.0.count p.0.1 end (size_of bytes at head.0 p.0.1 head.2).1 p.2 in
-    (
+    let rest = each_found bytes (element p.0.0.wire) (spells p.0.0.wire) (finds p.0.0.wire) p.0.0.count p.0.1 end (size_of bytes at head.0 p.0.1 head.2).1 p.2 in (
       head.0 ++ rest.0,
       record { head = p.0.0; front = head.0; rest = rest.0; headed = head.1; each = rest.1; all = refl },
       stands_join bytes at p.0.1 end head.0 rest.0 head.2 rest.2,
@@ -151,7 +149,7 @@ elements_taken bytes element spells takes at end text h s =
     let from = at + length h.front in
     let split : Stands bytes at (h.front ++ h.rest) end = subst (λ (bs : List ℕ). Stands bytes at bs end) h.all s in
     bind_from (list_at bytes at) (λ head. each_end (element head.0.wire) head.0.count head.1) (h.head, from)
-        (list_only bytes at h.head from h.front h.headed (stands_first bytes at h.front h.rest end split))
+    (list_only bytes at h.head from h.front h.headed (stands_first bytes at h.front h.rest end split))
     ∙ each_taken bytes (element h.head.wire) (spells h.head.wire) (takes h.head.wire) h.head.count from end h.rest h.each (stands_second bytes at h.front h.rest end split)
 
 -- ---- maps
@@ -177,20 +175,20 @@ pairs_found : (bytes : List ℕ) (element : Wire → ℕ → Result ℕ ThriftFa
     → (at from end : ℕ) → Stands bytes at size from → pairs_end element bytes count from ≡ Ok end → Found bytes (SpellsMap spells) at end
 pairs_found bytes element spells finds count size more sized at from end counted all =
     let p = bind_ok (byte_at bytes from)
-        (λ types. known (wire_of (types.0 / 16)) from >>= λ key. known (wire_of (types.0 % 16)) from >>= λ value.
-            each_end (λ place. element key place >>= element value) count types.1)
-        end all in
+    (λ types. known (wire_of (types.0 / 16)) from >>= λ key. known (wire_of (types.0 % 16)) from >>= λ value.
+    each_end (λ place. element key place >>= element value) count types.1)
+    end all in
     let types = p.0.0 in
     let q = bind_ok (known (wire_of (types / 16)) from)
-        (λ key. known (wire_of (types % 16)) from >>= λ value. each_end (λ place. element key place >>= element value) count p.0.1)
-        end p.2 in
+    (λ key. known (wire_of (types % 16)) from >>= λ value. each_end (λ place. element key place >>= element value) count p.0.1)
+    end p.2 in
     let r = bind_ok (known (wire_of (types % 16)) from) (λ value. each_end (λ place. element q.0 place >>= element value) count p.0.1) end q.2 in
     let stands = byte_found bytes from types p.0.1 p.1 in
     let pairs = each_found bytes (λ place. element q.0 place >>= element r.0) (SpellsPair (spells q.0) (spells r.0))
-        (pair_found bytes (element q.0) (element r.0) (spells q.0) (spells r.0) (finds q.0) (finds r.0))
-        count p.0.1 end (size_of bytes from (types ∷ []) p.0.1 stands).1 r.2 in
+    (pair_found bytes (element q.0) (element r.0) (spells q.0) (spells r.0) (finds q.0) (finds r.0))
+    count p.0.1 end (size_of bytes from (types ∷ []) p.0.1 stands).1 r.2 in
     pairs_text types q.0 r.0 pairs.0 (known_found (types / 16) from q.0 q.1) (known_found (types % 16) from r.0 r.1) pairs.1
-        (stands_join bytes at from end size (types ∷ pairs.0) counted (stands_join bytes from p.0.1 end (types ∷ []) pairs.0 stands pairs.2))
+    (stands_join bytes at from end size (types ∷ pairs.0) counted (stands_join bytes from p.0.1 end (types ∷ []) pairs.0 stands pairs.2))
   where
     pairs_text : (types : ℕ) (key value : Wire) (pairs : List ℕ) → types / 16 ≡ code_of key → types % 16 ≡ code_of value
         → SpellsEach (SpellsPair (spells key) (spells value)) count pairs → Stands bytes at (size ++ (types ∷ pairs)) end → Found bytes (SpellsMap spells) at end
@@ -203,11 +201,12 @@ map_found bytes element spells finds at end within e =
     let p = bind_ok (size_at bytes at) (λ size. cond (eqb size.0 0) (Ok size.1) (pairs_end element bytes size.0 size.1)) end e in
     let size = size_found bytes at p.0.0 p.0.1 within p.1 in
     elim (cases_eq p.0.0 0) [
-      inl none ↦
+      | inl none ↦
           let last = ok_inside p.0.1 end (rw (eq-eqb p.0.0 0 none) at p.2) in
           (size.0, empty (subst (λ k. SpellsSize size.0 k) none size.1), subst (λ k. Stands bytes at size.0 k) last size.2)
       | inr more ↦
-          pairs_found bytes element spells finds p.0.0 size.0 more size.1 at p.0.1 end size.2 (rw (ne_eqb p.0.0 0 more) at p.2) ]
+          pairs_found bytes element spells finds p.0.0 size.0 more size.1 at p.0.1 end size.2 (rw (ne_eqb p.0.0 0 more) at p.2)
+    ]
 
 map_taken : (bytes : List ℕ) (element : Wire → ℕ → Result ℕ ThriftFault) (spells : Wire → List ℕ → Type 0)
     → ((wire : Wire) → Takes bytes (element wire) (spells wire)) → Takes bytes (map_end element bytes) (SpellsMap spells)
@@ -219,19 +218,19 @@ map_taken bytes element spells takes at end text (some count size types key valu
     let rest : Stands bytes from (types ∷ pairs) end = stands_second bytes at size (types ∷ pairs) end split in
     let typed : Stands bytes from (types ∷ []) (from + 1) = stands_first bytes from (types ∷ []) pairs end rest in
     bind_from (size_at bytes at) (λ k. cond (eqb k.0 0) (Ok k.1) (pairs_end element bytes k.0 k.1)) (count, from)
-        (size_only bytes at count from size sized (stands_first bytes at size (types ∷ pairs) end split))
+    (size_only bytes at count from size sized (stands_first bytes at size (types ∷ pairs) end split))
     ∙ rw (ne_eqb count 0 more)
-        (bind_from (byte_at bytes from)
-            (λ k. known (wire_of (k.0 / 16)) from >>= λ a. known (wire_of (k.0 % 16)) from >>= λ b. each_end (λ place. element a place >>= element b) count k.1)
-            (types, from + 1) (byte_only bytes from types (from + 1) typed)
-        ∙ bind_from (known (wire_of (types / 16)) from)
-            (λ a. known (wire_of (types % 16)) from >>= λ b. each_end (λ place. element a place >>= element b) count (from + 1)) key
-            (known_only (types / 16) from key first)
-        ∙ bind_from (known (wire_of (types % 16)) from) (λ b. each_end (λ place. element key place >>= element b) count (from + 1)) value
-            (known_only (types % 16) from value second)
-        ∙ each_taken bytes (λ place. element key place >>= element value) (SpellsPair (spells key) (spells value))
-            (pair_taken bytes (element key) (element value) (spells key) (spells value) (takes key) (takes value))
-            count (from + 1) end pairs each (stands_second bytes from (types ∷ []) pairs end rest))
+    (bind_from (byte_at bytes from)
+    (λ k. known (wire_of (k.0 / 16)) from >>= λ a. known (wire_of (k.0 % 16)) from >>= λ b. each_end (λ place. element a place >>= element b) count k.1)
+    (types, from + 1) (byte_only bytes from types (from + 1) typed)
+    ∙ bind_from (known (wire_of (types / 16)) from)
+    (λ a. known (wire_of (types % 16)) from >>= λ b. each_end (λ place. element a place >>= element b) count (from + 1)) key
+    (known_only (types / 16) from key first)
+    ∙ bind_from (known (wire_of (types % 16)) from) (λ b. each_end (λ place. element key place >>= element b) count (from + 1)) value
+    (known_only (types % 16) from value second)
+    ∙ each_taken bytes (λ place. element key place >>= element value) (SpellsPair (spells key) (spells value))
+    (pair_taken bytes (element key) (element value) (spells key) (spells value) (takes key) (takes value))
+    count (from + 1) end pairs each (stands_second bytes from (types ∷ []) pairs end rest))
 
 -- ---- structs
 
@@ -244,8 +243,7 @@ field_end_found bytes value spells others finds after last head fields.Stop at f
 field_end_found bytes value spells others finds after last head (fields.Next id wire) at from end spelled stands e =
     let p = bind_ok (value wire from) (others id) end e in
     let inner = finds wire from p.0 (size_of bytes at head from stands).1 p.1 in
-    let rest = after id p.0 end (size_of bytes from inner.0 p.0 inner.2).1 p.2 in
-    (
+    let rest = after id p.0 end (size_of bytes from inner.0 p.0 inner.2).1 p.2 in (
       head ++ (inner.0 ++ rest.0),
       next id wire head inner.0 rest.0 spelled inner.1 rest.1 refl,
       stands_join bytes at from end head (inner.0 ++ rest.0) stands (stands_join bytes from p.0 end inner.0 rest.0 inner.2 rest.2),
@@ -259,7 +257,7 @@ fields_found bytes value spells finds (suc most) last at end within e =
     let p = bind_ok (field_at bytes last at) (λ field. field_end value (fields_end value bytes most) field.0 field.1) end e in
     let head = field_found bytes last at p.0.0 p.0.1 p.1 in
     field_end_found bytes value spells (fields_end value bytes most) finds (λ id. fields_found bytes value spells finds most id)
-        last head.0 p.0.0 at p.0.1 end head.1 head.2 p.2
+    last head.0 p.0.0 at p.0.1 end head.1 head.2 p.2
 
 header_some : (last id : ℤ) (wire : Wire) (text : List ℕ) → SpellsNext last id wire text → 0 < length text
 header_some last id wire text (short byte typed above sum) = omega arith
@@ -272,7 +270,7 @@ unfolding fields_end
 fields_taken bytes value spells takes zero last at end text few h s = absurd (omega arith)
 fields_taken bytes value spells takes (suc most) last at end text few (stop spelled) s =
     bind_from (field_at bytes last at) (λ field. field_end value (fields_end value bytes most) field.0 field.1) (fields.Stop, end)
-        (field_only bytes last at fields.Stop end text spelled s)
+    (field_only bytes last at fields.Stop end text spelled s)
 fields_taken bytes value spells takes (suc most) last at end text few (next id wire head inner others spelled within after all) s =
     let from = at + length head in
     let middle = from + length inner in
@@ -282,7 +280,7 @@ fields_taken bytes value spells takes (suc most) last at end text few (next id w
     let second = length-append inner others in
     let fewer : length others < most = omega (arith, ap length all, outer, second, header_some last id wire head spelled.0) in
     bind_from (field_at bytes last at) (λ field. field_end value (fields_end value bytes most) field.0 field.1) (fields.Next id wire, from)
-        (field_only bytes last at (fields.Next id wire) from head spelled (stands_first bytes at head (inner ++ others) end split))
+    (field_only bytes last at (fields.Next id wire) from head spelled (stands_first bytes at head (inner ++ others) end split))
     ∙ bind_from (value wire from) (fields_end value bytes most id) middle (takes wire from middle inner within (stands_first bytes from inner others end rest))
     ∙ fields_taken bytes value spells takes most id middle end others fewer after (stands_second bytes from inner others end rest)
 
@@ -344,12 +342,13 @@ value_found zero bytes element wire at end within e =
     let p = guard_ok (is_container wire) (faults.Deep at) (plain_end bytes element wire at) end e in
     plain_found bytes element wire p.0 at end within p.1
 value_found (suc levels) bytes element wire at end within e = elim (cases_Bool (is_container wire)) [
-    inl holds ↦
-        let found = container_found bytes (value_end levels bytes) (SpellsValue levels) (λ inner kind. value_found levels bytes inner kind) wire holds at end within (rw holds at e) in
-        (found.0, inr found.1, found.2)
-    | inr plain ↦
-        let found = plain_found bytes element wire plain at end within (rw plain at e) in
-        (found.0, inl found.1, found.2) ]
+  | inl holds ↦
+      let found = container_found bytes (value_end levels bytes) (SpellsValue levels) (λ inner kind. value_found levels bytes inner kind) wire holds at end within (rw holds at e) in
+      (found.0, inr found.1, found.2)
+  | inr plain ↦
+      let found = plain_found bytes element wire plain at end within (rw plain at e) in
+      (found.0, inl found.1, found.2)
+]
 
 pub value_taken : (levels : ℕ) (bytes : List ℕ) (element : Bool) (wire : Wire) → Takes bytes (value_end levels bytes element wire) (SpellsValue levels element wire)
 unfolding value_end SpellsValue
@@ -357,7 +356,7 @@ value_taken zero bytes element wire at end text h s = rw (plain_kind element wir
 value_taken (suc levels) bytes element wire at end text (inl h) s = rw (plain_kind element wire text h) (plain_taken bytes element wire at end text h s)
 value_taken (suc levels) bytes element wire at end text (inr h) s =
     rw (container_kind (SpellsValue levels) wire text h)
-        (container_taken bytes (value_end levels bytes) (SpellsValue levels) (λ inner kind. value_taken levels bytes inner kind) wire at end text h s)
+    (container_taken bytes (value_end levels bytes) (SpellsValue levels) (λ inner kind. value_taken levels bytes inner kind) wire at end text h s)
 
 pub skipped_found : (levels : ℕ) (bytes : List ℕ) (wire : Wire) (at : ℕ) (value : Unit {0}) (end : ℕ) → at ≤ length bytes
     → ◌>>=◌ {B = Unit {0} × ℕ} (value_end levels bytes false wire at) (λ to. Ok (tt, to)) ≡ Ok (value, end) → Found bytes (SpellsValue levels false wire) at end

@@ -26,11 +26,12 @@ unfolding IsWritten varint_of IsVarint
 varint_written zero number some below = absurd (omega arith)
 varint_written (suc zero) number some below = rw (lt-ltb number 128 (omega arith)) (inl (omega arith, refl, refl), omega arith)
 varint_written (suc (suc most)) number some below = elim (cases_lt number 128) [
-    inl small ↦ rw (lt-ltb number 128 small) (inl (small, refl, refl), omega arith)
-    | inr large ↦
-        let bits : 2 ^ (7 * suc (suc most)) ≡ 128 * 2 ^ (7 * suc most) = ap (λ k. 2 ^ k) (seven (suc most)) ∙ pow-add 2 7 (7 * suc most) in
-        let rest = varint_written (suc most) (number / 128) (omega arith) (omega (arith, bits)) in
-        rw (le-ltb number 128 large) (inr (omega arith, number / 128, omega arith, rest.0), omega (arith, rest.1)) ]
+  | inl small ↦ rw (lt-ltb number 128 small) (inl (small, refl, refl), omega arith)
+  | inr large ↦
+      let bits : 2 ^ (7 * suc (suc most)) ≡ 128 * 2 ^ (7 * suc most) = ap (λ k. 2 ^ k) (seven (suc most)) ∙ pow-add 2 7 (7 * suc most) in
+      let rest = varint_written (suc most) (number / 128) (omega arith) (omega (arith, bits)) in
+      rw (le-ltb number 128 large) (inr (omega arith, number / 128, omega arith, rest.0), omega (arith, rest.1))
+]
   where
     seven : (i : ℕ) → 7 * suc i ≡ 7 + 7 * i
     seven i = omega arith
@@ -57,7 +58,7 @@ pub binaries_read_back : BinariesReadBack
 binaries_read_back content narrow front rest =
     let text = binary_bytes content in
     binary_only (front ++ (text ++ rest)) (length front) content (length front + length text) text
-        (record { size = varint_bytes (length content); counted = size_spelled (length content) narrow; all = refl }) (between front text rest)
+    (record { size = varint_bytes (length content); counted = size_spelled (length content) narrow; all = refl }) (between front text rest)
 
 -- ---- headers
 
@@ -65,8 +66,9 @@ list_spelled : (wire : Wire) (count : ℕ) → count < 2 ^ 32 → SpellsList (re
 list_spelled wire count narrow =
     let small = code_small wire in
     elim (cases_lt count 15) [
-      inl few ↦ rw (lt-ltb count 15 few) (short (16 * count + code_of wire) (omega (arith, small.1)) (omega (arith, small.1)) (λ full. omega arith))
-      | inr many ↦ rw (le-ltb count 15 many) (long (240 + code_of wire) (varint_bytes count) (omega (arith, small.1)) (omega (arith, small.1)) (size_spelled count narrow)) ]
+      | inl few ↦ rw (lt-ltb count 15 few) (short (16 * count + code_of wire) (omega (arith, small.1)) (omega (arith, small.1)) (λ full. omega arith))
+      | inr many ↦ rw (le-ltb count 15 many) (long (240 + code_of wire) (varint_bytes count) (omega (arith, small.1)) (omega (arith, small.1)) (size_spelled count narrow))
+    ]
 
 pub lists_read_back : ListsReadBack
 lists_read_back wire count narrow front rest =
@@ -83,21 +85,22 @@ id_spelled last id wire fits = long (code_of wire) (number_bytes id) refl (varin
 delta_spelled : (last id : ℤ) (wire : Wire) (delta : ℤ) → fits_16 id ≡ true → id ≡ last +ℤ delta → SpellsNext last id wire (delta_bytes delta id wire)
 delta_spelled last id wire (negsuc n) fits sum = id_spelled last id wire fits
 delta_spelled last id wire (pos n) fits sum = elim (cases_Bool (ltb 0 n && ltb n 16)) [
-    inl near ↦
-        let p = and_parts (ltb 0 n) (ltb n 16) near in
-        let some : 0 < n = ltb-true 0 n p.0 in
-        let few : n < 16 = ltb-true n 16 p.1 in
-        let small = code_small wire in
-        let high : (16 * n + code_of wire) / 16 ≡ n = omega (arith, small.1) in
-        rw near (short (16 * n + code_of wire) (omega (arith, small.1)) (omega arith) (sum ∙ ap (λ k. last +ℤ pos k) (sym high)))
-    | inr far ↦ rw far (id_spelled last id wire fits) ]
+  | inl near ↦
+      let p = and_parts (ltb 0 n) (ltb n 16) near in
+      let some : 0 < n = ltb-true 0 n p.0 in
+      let few : n < 16 = ltb-true n 16 p.1 in
+      let small = code_small wire in
+      let high : (16 * n + code_of wire) / 16 ≡ n = omega (arith, small.1) in
+      rw near (short (16 * n + code_of wire) (omega (arith, small.1)) (omega arith) (sum ∙ ap (λ k. last +ℤ pos k) (sym high)))
+  | inr far ↦ rw far (id_spelled last id wire fits)
+]
 
 pub fields_read_back : FieldsReadBack
 fields_read_back last id wire fits front rest =
     let text = field_bytes last id wire in
     let sum : id ≡ last +ℤ (id -ℤ last) = sym (+ℤ_comm last (id -ℤ last) ∙ -ℤ-+ℤ_cancel id last) in
     field_only (front ++ (text ++ rest)) last (length front) (fields.Next id wire) (length front + length text) text
-        (delta_spelled last id wire (id -ℤ last) fits sum, fits) (between front text rest)
+    (delta_spelled last id wire (id -ℤ last) fits sum, fits) (between front text rest)
 
 pub stops_read_back : StopsReadBack
 stops_read_back last front rest =

@@ -22,7 +22,7 @@ returns-in_err-high-clause-value t c =
 pub returns-clause-value : goal.returns-clause-value
 returns-clause-value t c =
     rw c.from-2.ensures
-        (plain_inner_some c.args.most c.args.bytes.now c.in_ok-high.high c.in_ok-high.count (omega arith) (omega arith) (omega arith) (rw (take_rest c.args.bytes.now 1) at c.in_ok-high.ensures.value))
+    (plain_inner_some c.args.most c.args.bytes.now c.in_ok-high.high c.in_ok-high.count (omega arith) (omega arith) (omega arith) (rw (take_rest c.args.bytes.now 1) at c.in_ok-high.ensures.value))
 
 pub returns-clause-small : goal.returns-clause-small
 returns-clause-small t c = rw c.from-2.ensures (plain_bits c.args.most _ c.in_ok-high.high (omega arith) c.in_ok-high.ensures.small)

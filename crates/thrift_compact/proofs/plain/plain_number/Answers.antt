@@ -22,4 +22,4 @@ pub returns-clause-some : goal.returns-clause-some
 returns-clause-some c =
     let fits : SFits w64 c.signed.result = search rules in
     rw (to_z-of_z w64 c.signed.result fits, c.signed.ensures)
-        (plain_spelled c.args.bytes.now c.in_ok-number.number c.in_ok-number.count c.in_ok-number.ensures.value (omega arith)).0
+    (plain_spelled c.args.bytes.now c.in_ok-number.number c.in_ok-number.count c.in_ok-number.ensures.value (omega arith)).0
