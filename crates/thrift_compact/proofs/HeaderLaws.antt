@@ -1,6 +1,6 @@
 -- Reading headers gives exactly the headers whose texts stand in the bytes.
-use Rattle.std.proofs.Common.{◌≡◌, ◌⊎◌, ℕ, zero, suc, ◌+◌, ◌-◌, ◌*◌, ◌/◌, ◌%◌, ◌^◌, ◌<◌, ◌≤◌, Bool, true, false, cond, eqb, ltb, List, [], ◌∷◌, ◌++◌, length, refl, sym, ap, ◌∙◌, subst, arith, inl, inr, Result, Ok, Err, Option, Some, None}
-use Rattle.std.specs.Prelude.{ℤ, pos, negsuc, ◌+ℤ◌}
+use Rattle.std.proofs.Common.{◌≡◌, ◌⊎◌, ℕ, ◌+◌, ◌/◌, ◌%◌, ◌<◌, true, cond, eqb, ltb, List, [], ◌∷◌, refl, sym, ap, ◌∙◌, subst, arith, inl, inr, Result, Ok, Option, Some, None}
+use Rattle.std.specs.Prelude.{ℤ, pos, ◌+ℤ◌}
 use Rattle.std.proofs.lemmas.Bool.{cases_lt, cases_eq, lt-ltb, le-ltb, eq-eqb, ne_eqb}
 use Rattle.thrift_compact.specs.declared.fault.ThriftFault.{ThriftFault}
 use Rattle.thrift_compact.specs.declared.fault.ThriftFault.TheVariants as faults
@@ -12,7 +12,7 @@ use Rattle.thrift_compact.specs.declared.wire.ListHead.{ListHead}
 use Rattle.thrift_compact.specs.Places.{◌>>=◌}
 use Rattle.thrift_compact.specs.Values.{size_at, number_at, byte_at, wire_of, known, fits_16, field_here, field_at, list_at}
 use Rattle.thrift_compact.specs.Writing.{code_of}
-use Rattle.thrift_compact.specs.Spelled.{SpellsSize, SpellsNumber, SpellsList, short, long, SpellsNext, SpellsField}
+use Rattle.thrift_compact.specs.Spelled.{SpellsSize, SpellsList, short, long, SpellsNext, SpellsField}
 use Rattle.thrift_compact.specs.Laws.{Stands}
 use Rattle.thrift_compact.proofs.Standing.{bind_ok, bind_from, ok_inside, holds_ok, size_of, stands_first, stands_second, stands_join, byte_found, byte_only}
 use Rattle.thrift_compact.proofs.ReadingLaws.{number_found, number_only, size_found, size_only}

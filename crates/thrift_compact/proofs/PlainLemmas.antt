@@ -1,11 +1,11 @@
 -- The plain reader of varints, step by step.
-use Rattle.std.proofs.Common.{◌≡◌, ℕ, zero, suc, ◌+◌, ◌-◌, ◌*◌, ◌/◌, ◌%◌, ◌^◌, ◌<◌, ◌≤◌, List, [], ◌∷◌, ◌++◌, length, take, drop, get_or, refl, sym, ap, ◌∙◌, subst, arith, Option, Some, None}
+use Rattle.std.proofs.Common.{◌≡◌, ℕ, zero, suc, ◌+◌, ◌-◌, ◌*◌, ◌%◌, ◌^◌, ◌<◌, ◌≤◌, List, [], ◌∷◌, ◌++◌, length, take, drop, get_or, refl, sym, ap, ◌∙◌, subst, arith, Option, Some, None}
 use Rattle.std.specs.Prelude.{ℤ}
 use Rattle.std.proofs.lemmas.Bool.{lt-ltb, le-ltb}
 use Rattle.std.proofs.lemmas.List.{take_at, length-append}
 use Rattle.std.proofs.lemmas.Nat.{pow-add, pow_pos}
 use Rattle.thrift_compact.specs.Varints.{Varint, number, ends, long, found_in, continued, varint, zigzag, unzigzag}
-use Rattle.thrift_compact.specs.Spelled.{IsVarint, SpellsVarint, SpellsNumber}
+use Rattle.thrift_compact.specs.Spelled.{SpellsVarint, SpellsNumber}
 use Rattle.thrift_compact.proofs.ReadingLaws.{IsFront, varint_found, varint_again, zigzag-unzigzag}
 
 some_inside : (a b : ℕ × ℕ) → Some a ≡ Some b → a ≡ b

@@ -1,9 +1,8 @@
 -- Reading gives exactly the values whose texts stand in the bytes.
-use Rattle.std.proofs.Common.{◌≡◌, ◌⊎◌, ℕ, zero, suc, ◌+◌, ◌-◌, ◌*◌, ◌/◌, ◌%◌, ◌^◌, ◌<◌, ◌≤◌, Bool, true, false, cond, eqb, ltb, List, [], ◌∷◌, ◌++◌, length, take, drop, refl, sym, ap, ◌∙◌, subst, arith, inl, inr, Result, Ok, Err, Option, Some, None}
+use Rattle.std.proofs.Common.{◌≡◌, ℕ, zero, suc, ◌+◌, ◌*◌, ◌/◌, ◌%◌, ◌^◌, ◌<◌, ◌≤◌, cond, ltb, List, [], ◌∷◌, ◌++◌, length, take, drop, refl, sym, ap, ◌∙◌, subst, arith, inl, inr, Ok, Err}
 use Rattle.std.specs.Prelude.{ℤ, pos, negsuc}
-use Rattle.std.proofs.lemmas.Bool.{cases_lt, cases_eq, lt-ltb, le-ltb, ltb-true, eqb-true, eqb-false, eq-eqb, ne_eqb}
+use Rattle.std.proofs.lemmas.Bool.{cases_lt, cases_eq, lt-ltb, le-ltb, ltb-true, eq-eqb, ne_eqb}
 use Rattle.std.proofs.lemmas.List.{take_at}
-use Rattle.thrift_compact.specs.declared.fault.ThriftFault.{ThriftFault}
 use Rattle.thrift_compact.specs.declared.fault.ThriftFault.TheVariants as faults
 use Rattle.thrift_compact.specs.Varints.{Varint, number, ends, long, continued, varint, zigzag, unzigzag}
 use Rattle.thrift_compact.specs.Places.{◌>>=◌}

@@ -1,17 +1,15 @@
 -- What is written spells the value, and so reads back.
-use Rattle.std.proofs.Common.{◌≡◌, ◌≢◌, ◌⊎◌, ℕ, zero, suc, ◌+◌, ◌-◌, ◌*◌, ◌/◌, ◌%◌, ◌^◌, ◌<◌, ◌≤◌, Bool, true, false, cond, ltb, List, [], ◌∷◌, ◌++◌, length, refl, sym, ap, ◌∙◌, arith, inl, inr, Ok}
+use Rattle.std.proofs.Common.{◌≡◌, ℕ, zero, suc, ◌+◌, ◌*◌, ◌/◌, ◌^◌, ◌<◌, ◌≤◌, true, ltb, List, [], ◌∷◌, ◌++◌, length, refl, sym, ap, ◌∙◌, arith, inl, inr}
 use Rattle.std.specs.Prelude.{ℤ, pos, negsuc, ◌+ℤ◌, ◌-ℤ◌, ◌&&◌}
 use Rattle.std.proofs.Math.IntN.{+ℤ_comm, -ℤ-+ℤ_cancel}
-use Rattle.std.proofs.Math.Pow.{pow_mono}
 use Rattle.std.proofs.lemmas.Bool.{cases_lt, cases_Bool, lt-ltb, le-ltb, ltb-true, and_parts}
 use Rattle.std.proofs.lemmas.Nat.{pow-add}
 use Rattle.thrift_compact.specs.declared.wire.Wire.{Wire}
 use Rattle.thrift_compact.specs.declared.wire.Field.TheVariants as fields
-use Rattle.thrift_compact.specs.declared.wire.ListHead.{ListHead}
 use Rattle.thrift_compact.specs.Varints.{zigzag}
-use Rattle.thrift_compact.specs.Values.{number_at, binary_at, field_at, list_at, fits_16}
+use Rattle.thrift_compact.specs.Values.{fits_16}
 use Rattle.thrift_compact.specs.Writing.{code_of, varint_of, varint_bytes, number_bytes, binary_bytes, list_bytes, delta_bytes, field_bytes}
-use Rattle.thrift_compact.specs.Spelled.{IsVarint, SpellsVarint, SpellsNumber, SpellsSize, SpellsBinary, SpellsList, short, long, SpellsNext, SpellsField}
+use Rattle.thrift_compact.specs.Spelled.{IsVarint, SpellsVarint, SpellsSize, SpellsList, short, long, SpellsNext}
 use Rattle.thrift_compact.specs.Laws.{Stands, NumbersReadBack, BinariesReadBack, ListsReadBack, FieldsReadBack, StopsReadBack}
 use Rattle.thrift_compact.proofs.ReadingLaws.{number_only, binary_only}
 use Rattle.thrift_compact.proofs.HeaderLaws.{code_small, list_only, field_only}

@@ -1,5 +1,5 @@
 -- Varints and zigzag numbers (Thrift compact protocol, "Integer encoding").
-use Rattle.std.specs.Prelude.{if◌then◌else◌, Option, Some, None, ℕ, zero, suc, ◌+◌, ◌-◌, ◌*◌, ◌/◌, ◌%◌, ◌==◌, nat_lt, List, [], ◌∷◌, ℤ, pos, negsuc}
+use Rattle.std.specs.Prelude.{if◌then◌else◌, Option, Some, None, ℕ, zero, suc, ◌+◌, ◌*◌, ◌/◌, ◌%◌, ◌==◌, nat_lt, List, [], ◌∷◌, ℤ, pos, negsuc}
 
 -- what the front of some bytes is, read as a varint: a number of so many bytes, or bytes that end inside it, or too many
 pub data Varint : Type 0 where

@@ -1,9 +1,7 @@
-use Rattle.std.proofs.Common.{◌≡◌, ap, ◌∙◌, arith, rules}
+use Rattle.std.proofs.Common.{arith, rules}
 use Rattle.std.specs.Int.{w64}
-use mir.Val.{SFits, to_z, of_z}
+use mir.Val.{SFits}
 use Rattle.std.proofs.lemmas.Int.{to_z-of_z}
-use Rattle.thrift_compact.specs.Varints.{zigzag}
-use Rattle.thrift_compact.specs.Spelled.{SpellsVarint}
 use Rattle.thrift_compact.proofs.PlainLemmas.{plain_spelled, plain_unspelled, plain_wide}
 use Rattle.thrift_compact.proofs.plain.plain_number.Goals as goal
 
