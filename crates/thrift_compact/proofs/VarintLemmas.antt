@@ -1,8 +1,8 @@
 -- Reading a varint byte by byte.
-use Rattle.std.proofs.Common.{◌≡◌, ◌⊎◌, ℕ, zero, suc, ◌+◌, ◌-◌, ◌*◌, ◌/◌, ◌%◌, ◌^◌, ◌<◌, ◌≤◌, List, [], ◌∷◌, ◌++◌, length, take, drop, get_or, refl, sym, ap, ◌∙◌, subst, arith, add-one, inl, inr, Result, Ok, Err, ltb}
+use Rattle.std.proofs.Common.{◌≡◌, ℕ, zero, suc, ◌+◌, ◌-◌, ◌*◌, ◌/◌, ◌%◌, ◌^◌, ◌<◌, ◌≤◌, List, [], ◌∷◌, ◌++◌, length, take, drop, get_or, refl, sym, ap, ◌∙◌, arith}
 use Rattle.std.specs.Prelude.{bit_or}
-use Rattle.std.proofs.lemmas.Bool.{cases_lt, lt-ltb, le-ltb}
-use Rattle.std.proofs.lemmas.Nat.{pow_pos, pow-add, shl_whole, or_shifted, or_comm, mul-le}
+use Rattle.std.proofs.lemmas.Bool.{lt-ltb, le-ltb}
+use Rattle.std.proofs.lemmas.Nat.{pow-add, shl_whole, or_shifted, or_comm, mul-le}
 use Rattle.std.proofs.lemmas.List.{drop_more, drop_all, append_assoc, length-take, take-take}
 use Rattle.thrift_compact.specs.Writing.{varint_of}
 use Rattle.thrift_compact.specs.Varints.{Varint, number, ends, long, continued, varint}

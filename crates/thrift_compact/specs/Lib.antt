@@ -3,3 +3,5 @@ pub mod Places
 pub mod Values
 pub mod Writing
 pub mod Skipped
+pub mod Spelled
+pub mod Laws

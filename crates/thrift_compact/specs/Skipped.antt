@@ -1,5 +1,5 @@
 -- Where a value that is skipped ends, or the first fault in it (Thrift compact protocol, "Struct", "List and set", "Map").
-use Rattle.std.specs.Prelude.{if◌then◌else◌, ℕ, zero, suc, ◌+◌, ◌/◌, ◌%◌, ◌==◌, Bool, true, false, List, length, ℤ, pos, Result, Ok, Err}
+use Rattle.std.specs.Prelude.{if◌then◌else◌, ℕ, zero, suc, ◌/◌, ◌%◌, ◌==◌, Bool, true, false, List, length, ℤ, pos, Result, Ok, Err}
 use Rattle.thrift_compact.specs.declared.fault.ThriftFault.{ThriftFault}
 use Rattle.thrift_compact.specs.declared.fault.ThriftFault.TheVariants as faults
 use Rattle.thrift_compact.specs.declared.wire.Wire.{Wire}

@@ -1,6 +1,6 @@
 -- What the bytes from a place on read as: a value and the place behind it, or the first fault with its place (Thrift
 -- compact protocol, "Field header", "List and set", "Map", "Binary", "Struct").
-use Rattle.std.specs.Prelude.{ℕ, zero, suc, ◌+◌, ◌-◌, ◌*◌, ◌/◌, ◌%◌, ◌^◌, ◌==◌, nat_lt, Bool, true, false, ◌&&◌, List, [], ◌∷◌, length, take, drop, slice_get, slice_index, ℤ, pos, negsuc, ◌+ℤ◌, Result, Ok, Err, Option, Some, None, if◌then◌else◌}
+use Rattle.std.specs.Prelude.{ℕ, ◌+◌, ◌/◌, ◌%◌, ◌^◌, ◌==◌, nat_lt, Bool, List, length, take, drop, slice_index, ℤ, pos, negsuc, ◌+ℤ◌, Result, Ok, Err, Option, Some, None, if◌then◌else◌}
 use Rattle.thrift_compact.specs.declared.fault.ThriftFault.{ThriftFault}
 use Rattle.thrift_compact.specs.declared.fault.ThriftFault.TheVariants as faults
 use Rattle.thrift_compact.specs.declared.wire.Wire.{Wire}

@@ -1,11 +1,17 @@
 -- Varints and zigzag numbers (Thrift compact protocol, "Integer encoding").
-use Rattle.std.specs.Prelude.{if◌then◌else◌, ℕ, zero, suc, ◌+◌, ◌-◌, ◌*◌, ◌/◌, ◌%◌, ◌==◌, nat_lt, List, [], ◌∷◌, ℤ, pos, negsuc}
+use Rattle.std.specs.Prelude.{if◌then◌else◌, Option, Some, None, ℕ, zero, suc, ◌+◌, ◌*◌, ◌/◌, ◌%◌, ◌==◌, nat_lt, List, [], ◌∷◌, ℤ, pos, negsuc}
 
 -- what the front of some bytes is, read as a varint: a number of so many bytes, or bytes that end inside it, or too many
 pub data Varint : Type 0 where
   number : (value len : ℕ) → Varint
   ends : Varint
   long : Varint
+
+-- the number and how many bytes it takes, where the bytes begin with one
+abbrev pub found_in : Varint → Option (ℕ × ℕ)
+found_in (number value len) = Some (value, len)
+found_in ends = None
+found_in long = None
 
 -- the low seven bits of a byte, and above them what the varint behind it stands for
 unfoldable pub continued : ℕ → Varint → Varint

@@ -1,5 +1,5 @@
 -- What is written (Thrift compact protocol).
-use Rattle.std.specs.Prelude.{if◌then◌else◌, ℕ, zero, suc, ◌+◌, ◌-◌, ◌*◌, ◌/◌, ◌%◌, nat_lt, ◌&&◌, List, [], ◌∷◌, ◌++◌, length, ℤ, pos, negsuc, ◌-ℤ◌}
+use Rattle.std.specs.Prelude.{if◌then◌else◌, ℕ, zero, suc, ◌+◌, ◌*◌, ◌/◌, ◌%◌, nat_lt, ◌&&◌, List, [], ◌∷◌, ◌++◌, length, ℤ, pos, negsuc, ◌-ℤ◌}
 use Rattle.thrift_compact.specs.declared.wire.Wire.{Wire}
 use Rattle.thrift_compact.specs.declared.wire.Wire.TheVariants as wires
 use Rattle.thrift_compact.specs.Varints.{zigzag}

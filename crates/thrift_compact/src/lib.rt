@@ -4,13 +4,17 @@
 mod appender;
 mod cursor;
 mod fault;
+mod laws;
 mod parts;
+mod plain;
 mod skip;
 mod wire;
 
 pub use appender::Appender;
 pub use cursor::Cursor;
 pub use fault::{NoMemory, ThriftFault};
+pub use laws::{reading_is_exact, written_is_read};
+pub use plain::plain_number;
 pub use wire::{Field, ListHead, Wire};
 
 #[cfg(test)]

@@ -52,7 +52,7 @@ pub(crate) fn read_number(bytes: &[u8], at: usize) -> Result<(i64, usize), Thrif
 }
 
 /// The number that a zigzag varint stands for.
-fn signed(number: u64) -> i64
+pub(crate) fn signed(number: u64) -> i64
     ensures { result ≡ unzigzag number }
 {
     let half = (number / 2) as i64;

@@ -1,42 +1,20 @@
 //! The kernels that are timed.
 
-ghost use Rattle.std.specs.Prelude.{◌≡◌, ◌≤◌, ◌^◌, ◌<◌, ◌*◌, length, IfOk};
+ghost use Rattle.std.specs.Prelude.{◌^◌, ◌<◌};
 
+use crate::words::Kernel;
 use bit_pack::{PackFault, pack, unpack};
 use std::alloc::{AllocError, Global};
 
 /// How many values a kernel runs over.
 const COUNT: usize = 1 << 22;
 
-/// What can go wrong at the word `time`.
-#[derive(Debug, Drop)]
-pub enum KernelFault {
-    /// No kernel of this name.
-    Kernel,
-    /// No number of runs.
-    Runs,
-    /// What the kernel answered.
-    Pack(PackFault),
-}
-
 /// The checksum of so many runs of a kernel.
-pub fn run(alloc: Global, kernel: &str, runs: &str) -> Result<u64, KernelFault> {
-    let Ok(runs) = runs.parse::<u32>() else {
-        return Err(KernelFault::Runs);
-    };
-    if let Some(width) = kernel.strip_prefix("unpack-") {
-        return match width.parse::<u8>() {
-            Ok(width) => run_unpack(alloc, width, runs).map_err(KernelFault::Pack),
-            Err(_) => Err(KernelFault::Kernel),
-        };
+pub fn run(alloc: Global, kernel: Kernel, runs: u32) -> Result<u64, PackFault> {
+    match kernel {
+        Kernel::Unpack(width) => run_unpack(alloc, width, runs),
+        Kernel::Pack(width) => run_pack(alloc, width, runs),
     }
-    if let Some(width) = kernel.strip_prefix("pack-") {
-        return match width.parse::<u8>() {
-            Ok(width) => run_pack(alloc, width, runs).map_err(KernelFault::Pack),
-            Err(_) => Err(KernelFault::Kernel),
-        };
-    }
-    Err(KernelFault::Kernel)
 }
 
 /// Values of a width, from a shift register.
@@ -53,7 +31,9 @@ fn make_values(alloc: Global, width: u8, count: usize) -> Result<Vec<u32>, Alloc
 }
 
 /// The low bits of a number, at most 32.
-fn cut(state: u64, width: u8) -> u32 {
+fn cut(state: u64, width: u8) -> u32
+    ensures { result < 2 ^ width }
+{
     let low = state % (1 << 32);
     if width < 32 {
         (low % (1 << width)) as u32

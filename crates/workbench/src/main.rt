@@ -1,39 +1,98 @@
 //! The workbench of the formats.
 //!
 //! `time KERNEL N` runs a kernel N times over data that it makes, and prints a checksum alone. The kernels are
-//! `unpack-W` and `pack-W` for a width W. `read FORMAT FILE` prints what a file reads as, or its fault; the formats are
-//! `hybrid` (one byte of width, four bytes of count, lowest first, and then the hybrid) and `thrift` (a struct).
+//! `unpack-W` and `pack-W` for a width W from 0 to 32. `read FORMAT FILE` prints what a file reads as, or its fault; the
+//! formats are `hybrid` (one byte of width, four bytes of count, lowest first, and then the hybrid) and `thrift` (a
+//! struct).
+//!
+//! Where the words aren't accepted the status is 2, where the file can't be read or another call fails it is 1, and a
+//! line on standard error says why.
 #![tactic(auto)]
 
 mod kernels;
 mod reading;
+mod words;
 
+ghost use Rattle.std.specs.Prelude.{◌≡◌};
+ghost use Rattle.workbench.specs.Status.{status_of};
+
+use crate::words::{Command, WordsFault, command_of};
+use bit_pack::PackFault;
+use std::alloc::{AllocError, AllocFailed};
+use std::process::ExitCode;
 use std::{env, fs, io};
+use thiserror::Error;
 
-fn main(rt: HostRuntime) -> io::Result<()> {
+/// Why nothing was printed.
+#[derive(Debug, Drop, Error)]
+enum Failed {
+    #[error("{0}")]
+    Words(WordsFault),
+    #[error("the kernel failed: {0}")]
+    Kernel(PackFault),
+    #[error("the file can't be read: {0}")]
+    File(io::Error),
+    #[error("the answer can't be printed: {0}")]
+    Print(io::Error),
+    #[error("out of memory")]
+    NoMemory,
+}
+
+impl From<AllocError> for Failed {
+    fn from(_refused: AllocError) -> Failed {
+        Failed::NoMemory
+    }
+}
+
+impl<T: Drop> From<AllocFailed<T>> for Failed {
+    fn from(_refused: AllocFailed<T>) -> Failed {
+        Failed::NoMemory
+    }
+}
+
+/// The exit status of a failure.
+fn status_of(failed: &Failed) -> u8
+    ensures { result ≡ status_of failed.now }
+{
+    match failed {
+        Failed::Words(_) => 2,
+        _ => 1,
+    }
+}
+
+/// Does what the words ask for.
+fn obey(rt: &HostRuntime) -> Result<(), Failed> {
     let alloc = rt.alloc();
     let mut words = Vec::new(alloc);
-    for word in env::args(&rt)? {
+    for word in env::args(rt).map_err(|_| Failed::Words(WordsFault::Count))? {
         words.push(word)?;
     }
-    if words.len() != 4 {
-        return println!(rt; "usage: workbench time KERNEL N, or workbench read FORMAT FILE");
-    }
-    let word = words[1].as_str();
-    let name = words[2].as_str();
-    let last = words[3].as_str();
-    if word == "time" {
-        match kernels::run(alloc, name, last) {
-            Ok(sum) => println!(rt; "{sum}"),
-            Err(fault) => println!(rt; "{fault:?}"),
+    let [_, word, name, last] = words.as_slice() else {
+        return Err(Failed::Words(WordsFault::Count));
+    };
+    let command = command_of(word.as_str(), name.as_str(), last.as_str()).map_err(Failed::Words)?;
+    match command {
+        Command::Time(kernel, runs) => {
+            let sum = kernels::run(alloc, kernel, runs).map_err(Failed::Kernel)?;
+            println!(rt; "{sum}").map_err(Failed::Print)
         }
-    } else {
-        let bytes = fs::read(&rt, last)?;
-        let text = if name == "thrift" {
-            reading::thrift_text(alloc, bytes.as_slice())?
-        } else {
-            reading::hybrid_text(alloc, bytes.as_slice())?
-        };
-        println!(rt; "{text}")
+        Command::Read(format) => {
+            let bytes = fs::read(rt, last.as_str()).map_err(Failed::File)?;
+            let text = reading::text_of(alloc, format, bytes.as_slice())?;
+            println!(rt; "{text}").map_err(Failed::Print)
+        }
+    }
+}
+
+fn main(rt: HostRuntime) -> ExitCode {
+    match obey(&rt) {
+        Ok(()) => ExitCode::SUCCESS,
+        Err(failed) => {
+            let status = status_of(&failed);
+            match eprintln!(rt; "workbench: {failed}") {
+                Ok(()) => ExitCode::from(status),
+                Err(_) => ExitCode::from(1),
+            }
+        }
     }
 }

@@ -1,5 +1,4 @@
-use Rattle.std.proofs.Common.{ℕ, ◌≡◌, ◌<◌, ◌≤◌, ◌+◌, ◌*◌, ◌%◌, ◌^◌, cond, ltb, Ok, Err, length, drop, get_or, arith, sym, ap, ◌∙◌}
-use Rattle.thrift_compact.specs.declared.fault.ThriftFault.TheVariants as faults
+use Rattle.std.proofs.Common.{◌≡◌, ◌<◌, ◌+◌, ◌*◌, ◌%◌, ◌^◌, length, drop, get_or, arith, sym, ap, ◌∙◌}
 use Rattle.thrift_compact.specs.Varints.{varint}
 use Rattle.thrift_compact.specs.Values.{varint_here, varint_at}
 use Rattle.thrift_compact.proofs.VarintLemmas.{after_none, varint_step, varint_last, varint_ends, varint_long, digit_above}

@@ -1,0 +1,22 @@
+//! Laws of reading and writing.
+
+ghost use Rattle.std.specs.Prelude.{◌≡◌};
+ghost use Rattle.thrift_compact.specs.Laws.{NumbersReadExactly, BinariesReadExactly, ListsReadExactly, FieldsReadExactly, ValuesSkipExactly, NumbersReadBack, BinariesReadBack, ListsReadBack, FieldsReadBack, StopsReadBack};
+
+/// Each call of a cursor reads a value exactly where bytes of this value stand (Thrift compact protocol).
+pub fn reading_is_exact()
+    ensures numbers { NumbersReadExactly }
+    ensures binaries { BinariesReadExactly }
+    ensures lists { ListsReadExactly }
+    ensures fields { FieldsReadExactly }
+    ensures values { ValuesSkipExactly }
+{}
+
+/// What an appender writes a cursor reads back, whatever stands before and behind it.
+pub fn written_is_read()
+    ensures numbers { NumbersReadBack }
+    ensures binaries { BinariesReadBack }
+    ensures lists { ListsReadBack }
+    ensures fields { FieldsReadBack }
+    ensures stops { StopsReadBack }
+{}

@@ -1,0 +1,168 @@
+//! The words of the command line.
+
+ghost use Rattle.std.specs.Prelude.{◌≡◌, ◌≤◌, option_map, IfSome};
+ghost use Rattle.std.specs.Option.{option_copied, option_and_then};
+ghost use Rattle.std.specs.List.{list_all};
+ghost use Rattle.std.specs.Char.{is_ascii_digit};
+ghost use Rattle.workbench.specs.Words as spec;
+
+use std::str;
+use thiserror::Error;
+
+/// The widest values, in bits.
+const MOST_BITS: u32 = 32;
+
+/// A kernel that is timed, for values of so many bits.
+#[derive(Clone, Copy, Debug, Drop, PartialEq, Eq)]
+pub enum Kernel {
+    /// `unpack-W`
+    Unpack(u8),
+    /// `pack-W`
+    Pack(u8),
+}
+
+/// What a file is to be read as.
+#[derive(Clone, Copy, Debug, Drop, PartialEq, Eq)]
+pub enum Format {
+    /// `hybrid`: one byte of width, four bytes of count, lowest first, and then the hybrid.
+    Hybrid,
+    /// `thrift`: a struct in the Thrift compact protocol.
+    Thrift,
+}
+
+/// What the program is asked to do.
+#[derive(Clone, Copy, Debug, Drop, PartialEq, Eq)]
+pub enum Command {
+    /// To run a kernel so many times.
+    Time(Kernel, u32),
+    /// To read a file.
+    Read(Format),
+}
+
+/// Why the words aren't accepted.
+#[derive(Clone, Copy, Debug, Drop, PartialEq, Eq, Error)]
+pub enum WordsFault {
+    /// There aren't three words, or they aren't text.
+    #[error("usage: workbench time KERNEL N, or workbench read FORMAT FILE")]
+    Count,
+    /// The first word is unknown.
+    #[error("unknown command: use time or read")]
+    Command,
+    /// No kernel has this name.
+    #[error("unknown kernel: use unpack-W or pack-W, with a width W from 0 to 32")]
+    Kernel,
+    /// No number of runs in decimal digits, or one of more than 32 bits.
+    #[error("the number of runs is no number from 0 to 4294967295")]
+    Runs,
+    /// No format has this name.
+    #[error("unknown format: use hybrid or thrift")]
+    Format,
+}
+
+/// What three words ask for, or the first fault in them.
+pub fn command_of(word: &str, name: &str, last: &str) -> Result<Command, WordsFault>
+    ensures { result ≡ spec.command_of word.now name.now last.now }
+{
+    match word {
+        "time" => time_command(kernel_of(name), number_of(last.as_bytes())),
+        "read" => match format_of(name) {
+            Some(format) => Ok(Command::Read(format)),
+            None => Err(WordsFault::Format),
+        },
+        _ => Err(WordsFault::Command),
+    }
+}
+
+/// The command of a kernel and its runs.
+fn time_command(kernel: Option<Kernel>, runs: Option<u32>) -> Result<Command, WordsFault>
+    ensures { result ≡ spec.time_command kernel runs }
+{
+    let kernel = kernel.ok_or(WordsFault::Kernel)?;
+    let runs = runs.ok_or(WordsFault::Runs)?;
+    Ok(Command::Time(kernel, runs))
+}
+
+/// The kernel of a name.
+fn kernel_of(name: &str) -> Option<Kernel>
+    ensures { result ≡ spec.kernel_of name.now }
+{
+    let name = name.as_bytes();
+    if let Some(width) = width_after(b"unpack-", name) {
+        return Some(Kernel::Unpack(width));
+    }
+    match width_after(b"pack-", name) {
+        Some(width) => Some(Kernel::Pack(width)),
+        None => None,
+    }
+}
+
+/// The format of a name.
+fn format_of(name: &str) -> Option<Format>
+    ensures { result ≡ spec.format_of name.now }
+{
+    match name {
+        "hybrid" => Some(Format::Hybrid),
+        "thrift" => Some(Format::Thrift),
+        _ => None,
+    }
+}
+
+/// The width that stands behind a front.
+fn width_after(front: &[u8], name: &[u8]) -> Option<u8>
+    ensures { result ≡ option_and_then spec.width_of (spec.after front.now name.now) }
+{
+    match after(front, name) {
+        Some(digits) => width_of(digits),
+        None => None,
+    }
+}
+
+/// What stands behind a front.
+fn after<'a>(front: &[u8], name: &'a [u8]) -> Option<&'a [u8]>
+    ensures { option_copied result ≡ spec.after front.now name.now }
+{
+    name.strip_prefix(front)
+}
+
+/// A width in decimal digits.
+fn width_of(digits: &[u8]) -> Option<u8>
+    ensures { result ≡ spec.width_of digits.now }
+{
+    match number_of(digits) {
+        Some(width) => {
+            if width <= MOST_BITS {
+                Some(width as u8)
+            } else {
+                None
+            }
+        }
+        None => None,
+    }
+}
+
+/// A number of 32 bits in decimal digits.
+fn number_of(digits: &[u8]) -> Option<u32>
+    ensures { result ≡ spec.number_of digits.now }
+{
+    if !are_digits(digits) {
+        return None;
+    }
+    match str::from_utf8(digits) {
+        Ok(digits) => digits.parse::<u32>().ok(),
+        Err(_) => None,
+    }
+}
+
+/// Whether a word is one decimal digit or more.
+fn are_digits(word: &[u8]) -> bool
+    ensures { result ≡ spec.are_digits word.now }
+{
+    !word.is_empty() && has_digits_alone(word)
+}
+
+/// Whether each byte is a decimal digit.
+fn has_digits_alone(word: &[u8]) -> bool
+    ensures { result ≡ list_all is_ascii_digit word.now }
+{
+    word.iter().all(|byte| byte.is_ascii_digit())
+}
