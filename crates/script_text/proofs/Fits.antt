@@ -1,11 +1,10 @@
 -- What holds of every script that some bytes spell.
-use Rattle.std.proofs.Common.{◌≡◌, ℕ, ℤ, pos, negsuc, zero, suc, ◌+◌, ◌<◌, ◌≤◌, Bool, true, false, cond, List, [], ◌∷◌, ◌++◌, length, map, Option, Some, None, refl, sym, ap, subst, ◌∙◌, arith, inl, inr, length-append, All, get_or}
-use Rattle.std.specs.Prelude.{◌==◌, ◌&&◌, nat_lt, nat_le, option_map, is_some}
+use Rattle.std.proofs.Common.{◌≡◌, ℕ, ℤ, pos, negsuc, ◌+◌, ◌<◌, ◌≤◌, Bool, true, false, cond, List, [], ◌∷◌, ◌++◌, length, map, Option, Some, None, refl, sym, subst, arith, length-append, All}
+use Rattle.std.specs.Prelude.{◌==◌, ◌&&◌, nat_lt, nat_le, option_map}
 use Rattle.std.specs.List.{list_all, flat_map, position, position_or_len}
 use Rattle.std.specs.Str.{bytes_eq}
 use Rattle.std.proofs.lemmas.Bool.{eqb-true}
 use Rattle.std.proofs.lemmas.Bool.Decides.{nat_tests}
-use Rattle.std.proofs.lemmas.List.{append-nil}
 use Rattle.std.proofs.lemmas.List.Concat.{flat_map-cons}
 use Rattle.std.proofs.lemmas.List.Elements.{All-append, All-push}
 use Rattle.actor_core.specs.declared.schedule.Item.{Item}
@@ -16,21 +15,19 @@ use Rattle.op_types.specs.declared.statement.Statement.{Statement as AStatement}
 use Rattle.op_types.specs.declared.statement.Statement.TheVariants as statement
 use Rattle.script_tokens.specs.declared.token.Token.{Token}
 use Rattle.script_tokens.proofs.Runs.{some_is, guarded, and_true}
-use Rattle.script_grammar.specs.Shape.{a_literal, spell, is_literal, Fits, FitsMore, FitsMany}
+use Rattle.script_grammar.specs.Shape.{a_literal, spell, Fits, FitsMore, FitsMany}
 use Rattle.script_text.specs.Lines.{column, row, Says}
 use Rattle.script_text.specs.declared.line.Line.TheVariants as line
 use Rattle.script_text.specs.declared.script.Script.{Script}
 use Rattle.script_text.specs.declared.script.SessionScript.{SessionScript}
-use Rattle.script_text.specs.declared.script.Header.{Header as AHeader}
 use Rattle.script_text.specs.declared.place.Place.{Place}
 use Rattle.script_text.specs.declared.place.Place.TheVariants.{Start, Headed, Session, Items}
 use Rattle.script_text.specs.declared.place.Placed.{Placed}
 use Rattle.script_text.specs.declared.place.Entry.{Entry}
-use Rattle.script_text.specs.declared.place.Entry.TheVariants as entry
 use Rattle.script_text.specs.Items.{NamedItem}
-use Rattle.script_text.specs.Places.{attempts_of, are_columns, table_of, column_count, fit_table, place_named, placed, Stands, attempts, table, first_session, schedule_at_once, next_session, insert, select, schedule, items, is_known, is_within, item_of_place, known_item, with_session, with_statement, with_items, begun, after}
+use Rattle.script_text.specs.Places.{attempts_of, are_columns, table_of, column_count, place_named, placed, Stands, attempts, table, first_session, schedule_at_once, next_session, insert, select, schedule, items, is_within, item_of_place, known_item, with_session, with_statement, begun, after}
 use Rattle.script_text.specs.Scripts.{Takes, passed, entered, Follows, here, next, script_of, SpellsScript, pieces}
-use Rattle.script_text.specs.Fit.{IsLong, AreFitRows, IsFitStatement, IsFitSession, IsFitHeader, IsFit}
+use Rattle.script_text.specs.Fit.{IsLong, IsFitStatement, IsFitSession, IsFit}
 
 lt_from : (m n : ℕ) → nat_lt m n ≡ true → m < n
 lt_from m n h = grind (arith, nat_tests)

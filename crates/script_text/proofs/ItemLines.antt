@@ -1,6 +1,6 @@
 -- Reading the items of a line is the inverse of spelling them.
-use Rattle.std.proofs.Common.{◌≡◌, ℕ, zero, suc, ◌+◌, ◌-◌, ◌<◌, ◌≤◌, Bool, true, false, cond, List, [], ◌∷◌, ◌++◌, length, take, drop, map, Option, Some, None, refl, sym, ap, subst, ◌∙◌, append_assoc, arith, inl, inr, length-append}
-use Rattle.std.specs.Prelude.{◌==◌, ◌||◌, ◌&&◌, ◌⊎◌, not, nat_le}
+use Rattle.std.proofs.Common.{◌≡◌, ℕ, zero, suc, ◌-◌, ◌<◌, true, false, List, [], ◌∷◌, ◌++◌, length, take, drop, map, Option, Some, None, refl, sym, ap, subst, ◌∙◌, append_assoc, arith, inl, inr, length-append}
+use Rattle.std.specs.Prelude.{◌==◌, ◌&&◌, not, nat_le}
 use Rattle.std.specs.List.{prefix_len}
 use Rattle.std.proofs.lemmas.List.{append-nil, take_at, drop_at, take-append-drop}
 use Rattle.std.proofs.lemmas.Bool.{eqb-true}
@@ -8,7 +8,7 @@ use Rattle.std.proofs.lemmas.Bool.Decides.{eqb_tells, nat_tests}
 use Rattle.actor_core.specs.declared.schedule.ItemForm.{ItemForm}
 use Rattle.actor_core.specs.declared.schedule.ItemForm.TheVariants.{One, Statement, Attempt}
 use Rattle.script_tokens.specs.Gives.{◌>>=◌}
-use Rattle.script_tokens.specs.Words.{is_letter, is_word_byte, is_reserved}
+use Rattle.script_tokens.specs.Words.{is_word_byte, is_reserved}
 use Rattle.script_tokens.specs.Tokens.{begins_letter}
 use Rattle.script_tokens.proofs.Runs.{some_is, bind_some, cond_some, guarded, and_true, runs, letter_no_space}
 use Rattle.script_grammar.specs.Names.{is_name}

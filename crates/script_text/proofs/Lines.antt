@@ -1,5 +1,5 @@
 -- Reading what a line says is the inverse of spelling it.
-use Rattle.std.proofs.Common.{◌≡◌, ℕ, List, [], Option, Some, None, refl, sym, ap, subst, ◌∙◌, inl, inr}
+use Rattle.std.proofs.Common.{◌≡◌, ℕ, List, [], Some, refl, sym, ap, subst, inl, inr}
 use Rattle.script_tokens.specs.Gives.{◌>>=◌}
 use Rattle.script_tokens.specs.Reading.{line_tokens}
 use Rattle.script_tokens.proofs.Runs.{bind_some, some_is}

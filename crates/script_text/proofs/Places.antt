@@ -1,15 +1,12 @@
 -- What a line is at its place is read exactly where it may stand there.
-use Rattle.std.proofs.Common.{◌≡◌, ℕ, ℤ, zero, suc, ◌+◌, ◌<◌, ◌≤◌, Bool, true, false, cond, List, [], ◌∷◌, ◌++◌, length, map, Option, Some, None, refl, sym, ap, subst, ◌∙◌, arith, inl, inr, length-append}
-use Rattle.std.specs.Prelude.{◌==◌, ◌||◌, ◌&&◌, ◌⊎◌, not, nat_lt, nat_le}
+use Rattle.std.proofs.Common.{◌≡◌, ℕ, ◌+◌, ◌<◌, ◌≤◌, true, List, [], ◌∷◌, ◌++◌, length, map, Option, Some, None, refl, ap, subst, ◌∙◌, arith, length-append}
+use Rattle.std.specs.Prelude.{nat_lt}
 use Rattle.std.proofs.lemmas.Bool.Decides.{nat_tests}
-use Rattle.row_base.specs.declared.row.Datum.{Datum}
-use Rattle.op_types.specs.declared.statement.Statement.{Statement as AStatement}
 use Rattle.op_types.specs.declared.statement.Statement.TheVariants as statement
 use Rattle.script_tokens.specs.Gives.{◌>>=◌}
 use Rattle.script_tokens.proofs.Runs.{some_is, bind_some, guarded}
 use Rattle.script_text.specs.declared.script.Script.{Script}
 use Rattle.script_text.specs.declared.script.SessionScript.{SessionScript}
-use Rattle.script_text.specs.declared.script.Header.{Header as AHeader}
 use Rattle.script_text.specs.declared.line.Line.{Line}
 use Rattle.script_text.specs.declared.line.Line.TheVariants as line
 use Rattle.script_text.specs.declared.place.Place.{Place}
@@ -18,8 +15,8 @@ use Rattle.script_text.specs.declared.place.Placed.{Placed}
 use Rattle.script_text.specs.declared.place.Entry.{Entry}
 use Rattle.script_text.specs.declared.place.Entry.TheVariants as entry
 use Rattle.script_text.specs.Lines.{Says, reading}
-use Rattle.script_text.specs.Items.{NamedItem, SpellsItems, items_of}
-use Rattle.script_text.specs.Places.{attempts_of, are_columns, table_of, is_session_name, fit_table, placed, Stands, attempts, table, first_session, schedule_at_once, next_session, insert, select, schedule, items, start_entry, session_start, headed_entry, session_entry, placed_from, entry_at, is_within, after}
+use Rattle.script_text.specs.Items.{items_of}
+use Rattle.script_text.specs.Places.{attempts_of, are_columns, table_of, is_session_name, fit_table, placed, Stands, attempts, table, first_session, schedule_at_once, next_session, insert, select, schedule, items, start_entry, headed_entry, session_entry, placed_from, entry_at, is_within, after}
 use Rattle.script_text.specs.Scripts.{session_count}
 use Rattle.script_text.proofs.Lines.{reading_is, reading_again}
 use Rattle.script_text.proofs.ItemLines.{items_found, items_again}

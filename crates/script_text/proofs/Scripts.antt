@@ -1,5 +1,5 @@
 -- A script is read exactly where the bytes spell it, and the least bad line is named exactly where there is one.
-use Rattle.std.proofs.Common.{◌≡◌, ℕ, zero, suc, ◌+◌, ◌<◌, ◌≤◌, Bool, true, false, cond, List, [], ◌∷◌, ◌++◌, length, Option, Some, None, Result, Ok, Err, refl, sym, ap, subst, ◌∙◌, arith, inl, inr}
+use Rattle.std.proofs.Common.{◌≡◌, ℕ, ◌+◌, true, false, List, [], ◌∷◌, ◌++◌, length, Option, Some, None, Result, Ok, Err, refl, sym, ap, subst, ◌∙◌, arith, inl, inr}
 use Rattle.std.specs.Prelude.{◌⊎◌, MatchResult, IfOk, IfErr}
 use Rattle.std.specs.Str.{IsUtf8, is_utf8}
 use Rattle.std.proofs.lemmas.Str.{is_utf8-from_IsUtf8, IsUtf8-from_is_utf8}
@@ -12,8 +12,8 @@ use Rattle.script_text.specs.declared.script.ScriptFaultKind.TheVariants as kind
 use Rattle.script_text.specs.declared.place.Place.{Place}
 use Rattle.script_text.specs.declared.place.Place.TheVariants.{Start, Headed, Session, Items}
 use Rattle.script_text.specs.declared.place.Entry.{Entry}
-use Rattle.script_text.specs.Places.{Stands, entry_at, is_known, is_within, after, with_session}
-use Rattle.script_text.specs.Scripts.{pieces, is_passed, Takes, passed, entered, Follows, here, next, lacking, Refuses, utf8, form, session, limit, script_of, SpellsScript, FailsFrom, refused, no_header, FailsScript, judged, judged_some, judge, finished, onward, script_from, FaultIs, GivesScript, Judges}
+use Rattle.script_text.specs.Places.{Stands, entry_at, is_known, is_within, after}
+use Rattle.script_text.specs.Scripts.{pieces, is_passed, Takes, passed, entered, Follows, here, next, Refuses, utf8, form, session, limit, script_of, SpellsScript, FailsFrom, refused, no_header, FailsScript, judged, judged_some, judge, finished, script_from, FaultIs, GivesScript, Judges}
 use Rattle.script_text.specs.Fit.{IsFit}
 use Rattle.script_text.proofs.Places.{entry_is, entry_again}
 use Rattle.script_text.proofs.Fits.{spelled_fit}

@@ -1,6 +1,5 @@
 -- What holds of every script that some bytes spell.
 use Rattle.std.specs.Prelude.{◌≡◌, ℕ, ◌<◌, ◌≤◌, true, List, length, All}
-use Rattle.actor_core.specs.declared.schedule.Item.{Item}
 use Rattle.row_base.specs.declared.row.Datum.{Datum as ADatum}
 use Rattle.row_base.specs.declared.row.Datum.TheVariants as datum
 use Rattle.op_types.specs.declared.statement.Statement.{Statement as AStatement}
@@ -8,7 +7,6 @@ use Rattle.op_types.specs.declared.statement.Statement.TheVariants as statement
 use Rattle.script_text.specs.declared.script.Script.{Script}
 use Rattle.script_text.specs.declared.script.SessionScript.{SessionScript}
 use Rattle.script_text.specs.declared.script.Header.{Header as AHeader}
-use Rattle.script_text.specs.declared.script.Header.TheVariants as header
 use Rattle.script_text.specs.Places.{column_count, are_columns, table_of}
 
 -- a long number, and not null

@@ -1,5 +1,5 @@
 -- What a line says, wherever it stands.
-use Rattle.std.specs.Prelude.{◌≡◌, ℕ, List, [], ◌∷◌, Option, Some, codes}
+use Rattle.std.specs.Prelude.{ℕ, List, [], Option, Some, codes}
 use Rattle.std.proofs.Common.{inl, inr}
 use Rattle.script_tokens.specs.Gives.{◌>>=◌}
 use Rattle.script_tokens.specs.declared.token.Token.{Token}

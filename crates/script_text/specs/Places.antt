@@ -1,5 +1,5 @@
 -- Which lines may stand at a place of a script, and the place behind them.
-use Rattle.std.specs.Prelude.{◌≡◌, ℕ, ℤ, pos, negsuc, suc, ◌+◌, Bool, true, false, List, [], ◌∷◌, ◌++◌, Option, Some, None, if◌then◌else◌, length, map, ◌==◌, ◌&&◌, ◌||◌, not, nat_lt, nat_le, option_map, is_some}
+use Rattle.std.specs.Prelude.{◌≡◌, ℕ, ℤ, pos, negsuc, ◌+◌, Bool, true, false, List, [], ◌∷◌, ◌++◌, Option, Some, None, if◌then◌else◌, length, map, ◌==◌, ◌&&◌, ◌||◌, not, nat_lt, nat_le, option_map, is_some}
 use Rattle.std.specs.List.{list_any, list_all, position, flat_map}
 use Rattle.std.specs.Char.{is_ascii_digit, is_ascii_lowercase}
 use Rattle.std.specs.Str.{bytes_eq}

@@ -1,5 +1,5 @@
 -- Scripts as the bytes spell them, and the least bad line.
-use Rattle.std.specs.Prelude.{◌≡◌, ℕ, ◌+◌, ◌⊎◌, Bool, true, false, List, [], ◌∷◌, ◌++◌, if◌then◌else◌, length, ◌==◌, not, Option, Some, None, Result, Ok, Err}
+use Rattle.std.specs.Prelude.{◌≡◌, ℕ, ◌+◌, Bool, true, false, List, [], ◌∷◌, ◌++◌, if◌then◌else◌, length, ◌==◌, not, Option, Some, None, Result, Ok, Err}
 use Rattle.std.specs.Str.{IsUtf8, is_utf8}
 use Rattle.script_text.specs.declared.script.Script.{Script}
 use Rattle.script_text.specs.declared.script.ScriptFault.{ScriptFault}

@@ -1,5 +1,5 @@
-use Rattle.std.proofs.Common.{◌≡◌, Some, None, sym, ap, ◌∙◌}
-use Rattle.script_text.specs.Places.{placed_from, put_placed}
+use Rattle.std.proofs.Common.{sym, ap, ◌∙◌}
+use Rattle.script_text.specs.Places.{placed_from}
 use Rattle.script_text.proofs.ItemLines.{placed_space, placed_step, placed_none, fewer}
 use Rattle.script_text.proofs.items.next.Goals as goal
 
