@@ -1,4 +1,5 @@
 //! Scripts and faults by hand.
+use crate::ScriptFaultKind::{Form, Header, Limit, Session, Utf8};
 use crate::{Script, ScriptFault, ScriptFaultKind, parse_script};
 use actor_core::ItemForm;
 use op_types::Statement;
@@ -17,6 +18,7 @@ fn read(alloc: Global, bytes: &[u8]) -> Result<Script, ScriptFault> {
     parse_script(alloc, bytes)
 }
 
+/// The least bad line of the script and its kind, or nothing where it is read.
 fn fault(alloc: Global, bytes: &[u8]) -> Option<(u32, ScriptFaultKind)> {
     match read(alloc, bytes) {
         Ok(_) => None,
@@ -24,20 +26,51 @@ fn fault(alloc: Global, bytes: &[u8]) -> Option<(u32, ScriptFaultKind)> {
     }
 }
 
-/// The fault of the lines behind a header of one column and a session `a`.
-fn fault_behind(alloc: Global, lines: &[u8]) -> Option<(u32, ScriptFaultKind)> {
-    let mut bytes = match Vec::from_slice(alloc, b"table (k long not null)\nsession a\n") {
-        Ok(bytes) => bytes,
-        Err(_) => return None,
-    };
-    match bytes.extend_from_slice(lines) {
-        Ok(_) => fault(alloc, &bytes),
-        Err(_) => None,
+fn is_read(alloc: Global, bytes: &[u8]) -> bool {
+    fault(alloc, bytes).is_none()
+}
+
+fn is_refused(alloc: Global, bytes: &[u8], line: u32, kind: ScriptFaultKind) -> bool {
+    fault(alloc, bytes) == Some((line, kind))
+}
+
+/// The lines behind a header of one column and a session `a`.
+fn script(alloc: Global, lines: &[u8]) -> Result<Vec<u8>, AllocError> {
+    let mut bytes = Vec::from_slice(alloc, b"table (k long not null)\nsession a\n")?;
+    bytes.extend_from_slice(lines)?;
+    Ok(bytes)
+}
+
+fn is_read_behind(alloc: Global, lines: &[u8]) -> bool {
+    match script(alloc, lines) {
+        Ok(bytes) => is_read(alloc, &bytes),
+        Err(_) => false,
+    }
+}
+
+fn is_refused_behind(alloc: Global, lines: &[u8], line: u32, kind: ScriptFaultKind) -> bool {
+    match script(alloc, lines) {
+        Ok(bytes) => is_refused(alloc, &bytes, line, kind),
+        Err(_) => false,
     }
 }
 
 fn row_is(row: &[Datum], first: i64, second: i64) -> bool {
     matches!(row, [Datum::Long(a), Datum::Long(b)] if *a == first && *b == second)
+}
+
+/// Whether the statements are an insert of two rows, and a select.
+fn are_statements(statements: &[Statement]) -> bool {
+    match statements {
+        [Statement::Insert { rows }, Statement::Select] => match rows.as_slice() {
+            [first, second] => {
+                row_is(first.as_slice(), 1, -2)
+                    && row_is(second.as_slice(), 7, 9_223_372_036_854_775_807)
+            }
+            _ => false,
+        },
+        _ => false,
+    }
 }
 
 #[test]
@@ -57,15 +90,7 @@ fn reads_a_script(rt: HostRuntime) {
     assert_eq!(rt; sessions[0].name.as_str(), "a");
     assert_eq!(rt; sessions[1].name.as_str(), "b2");
     assert_eq!(rt; sessions[1].statements.as_slice().len(), 0);
-    match sessions[0].statements.as_slice() {
-        [Statement::Insert { rows }, Statement::Select] => {
-            let rows = rows.as_slice();
-            assert_eq!(rt; rows.len(), 2);
-            assert!(rt; row_is(rows[0].as_slice(), 1, -2));
-            assert!(rt; row_is(rows[1].as_slice(), 7, 9_223_372_036_854_775_807));
-        }
-        _ => assert!(rt; false),
-    }
+    assert!(rt; are_statements(sessions[0].statements.as_slice()));
     let items = script.items.as_slice();
     assert_eq!(rt; items.len(), 4);
     assert!(rt; items[0].actor == 1 && items[0].form == ItemForm::One);
@@ -77,149 +102,145 @@ fn reads_a_script(rt: HostRuntime) {
 #[test]
 fn names_faults_at_the_header(rt: HostRuntime) {
     let alloc = rt.alloc();
-    assert_eq!(rt; fault(alloc, b""), Some((1, ScriptFaultKind::Header)));
-    assert_eq!(rt;
-        fault(alloc, b"# note\n\n"),
-        Some((3, ScriptFaultKind::Header))
-    );
-    assert_eq!(rt; fault(alloc, b"# \xff\n"), Some((1, ScriptFaultKind::Utf8)));
-    assert_eq!(rt;
-        fault(alloc, b"attempts 0\n"),
-        Some((1, ScriptFaultKind::Limit))
-    );
-    assert_eq!(rt;
-        fault(alloc, b"\nattempts 1000001"),
-        Some((2, ScriptFaultKind::Limit))
-    );
-    assert_eq!(rt;
-        fault(alloc, b"attempts 2\nattempts 2\n"),
-        Some((2, ScriptFaultKind::Header))
-    );
-    assert_eq!(rt;
-        fault(alloc, b"select\n"),
-        Some((1, ScriptFaultKind::Header))
-    );
-    assert_eq!(rt;
-        fault(alloc, b"table (k long not null, k long not null)\n"),
-        Some((1, ScriptFaultKind::Header))
-    );
-    assert_eq!(rt;
-        fault(alloc, b"table (key long not null)\n"),
-        Some((1, ScriptFaultKind::Header))
-    );
-    assert_eq!(rt;
-        fault(alloc, b"attempts 1000000\ntable (k long not null)"),
-        None
-    );
-    assert_eq!(rt;
-        fault(alloc, b"table (k long not null)\nselect\n"),
-        Some((2, ScriptFaultKind::Form))
-    );
+    for (text, line, kind) in [
+        ("", 1, Header),
+        ("# note\n\n", 3, Header),
+        ("attempts 5", 2, Header),
+        ("attempts 0\n", 1, Limit),
+        ("attempts -1\n", 1, Limit),
+        ("\nattempts 1000001", 2, Limit),
+        ("attempts 2\nattempts 2\n", 2, Header),
+        ("select\n", 1, Header),
+        ("table (k long not null, k long not null)\n", 1, Header),
+        ("table (key long not null)\n", 1, Header),
+        ("table\t(k long not null)\n", 1, Header),
+        ("table (k long not null)\nselect\n", 2, Form),
+    ] {
+        assert!(rt; is_refused(alloc, text.as_bytes(), line, kind), "{text}");
+    }
+    assert!(rt; is_refused(alloc, b"# \xff\n", 1, Utf8));
+    assert!(rt; is_read(alloc, b"attempts 1000000\ntable (k long not null)"));
+    assert!(rt; is_read(alloc, b"table (k long not null)\nschedule\n"));
 }
 
 #[test]
 fn names_faults_in_a_session(rt: HostRuntime) {
     let alloc = rt.alloc();
-    assert_eq!(rt;
-        fault_behind(alloc, b"delete\n"),
-        Some((3, ScriptFaultKind::Form))
-    );
-    assert_eq!(rt;
-        fault_behind(alloc, b"insert (1, 2)\n"),
-        Some((3, ScriptFaultKind::Form))
-    );
-    assert_eq!(rt;
-        fault_behind(alloc, b"insert (- 1)\n"),
-        Some((3, ScriptFaultKind::Form))
-    );
-    assert_eq!(rt;
-        fault_behind(alloc, b"insert (5a)\n"),
-        Some((3, ScriptFaultKind::Form))
-    );
-    assert_eq!(rt;
-        fault_behind(alloc, b"insert (9223372036854775808)"),
-        Some((3, ScriptFaultKind::Form))
-    );
-    assert_eq!(rt;
-        fault_behind(alloc, b"insert (-9223372036854775808),(-0)\nselect 1"),
-        Some((4, ScriptFaultKind::Form))
-    );
-    assert_eq!(rt;
-        fault_behind(alloc, b"\n# note\nselect where v > 'it''s'\n"),
-        Some((5, ScriptFaultKind::Form))
-    );
-    assert_eq!(rt;
-        fault_behind(alloc, b"\tselect\n"),
-        Some((3, ScriptFaultKind::Form))
-    );
-    assert_eq!(rt;
-        fault_behind(alloc, b"session a\n"),
-        Some((3, ScriptFaultKind::Session))
-    );
-    assert_eq!(rt;
-        fault_behind(alloc, b"session select\n"),
-        Some((3, ScriptFaultKind::Form))
-    );
-    assert_eq!(rt;
-        fault_behind(
-            alloc,
-            b"session abcdefghijklmnop\nsession abcdefghijklmnopq\n"
+    for (lines, line, kind) in [
+        ("delete\n", 3, Form),
+        ("insert (1, 2)\n", 3, Form),
+        ("insert (- 1)\n", 3, Form),
+        ("insert (5a)\n", 3, Form),
+        ("insert\t(1)\n", 3, Form),
+        ("insert (9223372036854775808)", 3, Form),
+        ("insert (-9223372036854775808),(-0)\nselect 1", 4, Form),
+        ("\n# note\nselect where v > 'it''s'\n", 5, Form),
+        ("session a\n", 3, Session),
+        ("session select\n", 3, Form),
+        (
+            "session abcdefghijklmnop\nsession abcdefghijklmnopq\n",
+            4,
+            Form,
         ),
-        Some((4, ScriptFaultKind::Form))
-    );
-    assert_eq!(rt;
-        fault_behind(alloc, b"session B\n"),
-        Some((3, ScriptFaultKind::Form))
-    );
+        ("session B\n", 3, Form),
+    ] {
+        assert!(rt;
+            is_refused_behind(alloc, lines.as_bytes(), line, kind),
+            "{lines}"
+        );
+    }
+    assert!(rt; is_refused_behind(alloc, b"select\n # \xc3(\n", 4, Utf8));
 }
 
 #[test]
 fn names_faults_of_items(rt: HostRuntime) {
     let alloc = rt.alloc();
-    assert_eq!(rt; fault_behind(alloc, b"schedule\na a! a@\n"), None);
-    assert_eq!(rt;
-        fault_behind(alloc, b"schedule\na c\n"),
-        Some((4, ScriptFaultKind::Session))
-    );
-    assert_eq!(rt;
-        fault_behind(alloc, b"schedule\nA\n"),
-        Some((4, ScriptFaultKind::Session))
-    );
-    assert_eq!(rt;
-        fault_behind(alloc, b"schedule\nc a !\n"),
-        Some((4, ScriptFaultKind::Form))
-    );
-    assert_eq!(rt;
-        fault_behind(alloc, b"schedule\na! select\n"),
-        Some((4, ScriptFaultKind::Form))
-    );
-    assert_eq!(rt;
-        fault_behind(alloc, b"schedule\nschedule\n"),
-        Some((4, ScriptFaultKind::Form))
-    );
+    for (lines, line, kind) in [
+        ("schedule\na c\n", 4, Session),
+        ("schedule\nA\n", 4, Session),
+        ("schedule\nc a !\n", 4, Form),
+        ("schedule\na!a\n", 4, Form),
+        ("schedule\na! select\n", 4, Form),
+        ("schedule\nschedule\n", 4, Form),
+    ] {
+        assert!(rt;
+            is_refused_behind(alloc, lines.as_bytes(), line, kind),
+            "{lines}"
+        );
+    }
+    for lines in ["schedule", "schedule\n\n# note\n", "schedule\na! a@ a\n"] {
+        assert!(rt; is_read_behind(alloc, lines.as_bytes()), "{lines}");
+    }
 }
 
-/// As many lines as asked, each of these bytes.
-fn repeated(alloc: Global, line: &[u8], count: u32) -> Result<Vec<u8>, AllocError> {
-    let mut bytes = Vec::new(alloc);
+/// The first bytes, then as many copies of the text as asked, then the last bytes.
+fn repeated(
+    alloc: Global,
+    first: &[u8],
+    text: &[u8],
+    count: u32,
+    last: &[u8],
+) -> Result<Vec<u8>, AllocError> {
+    let mut bytes = Vec::from_slice(alloc, first)?;
     for _ in 0..count {
-        bytes.extend_from_slice(line)?;
+        bytes.extend_from_slice(text)?;
     }
+    bytes.extend_from_slice(last)?;
     Ok(bytes)
 }
 
 #[test]
 fn names_the_statement_past_the_limit(rt: HostRuntime) {
     let alloc = rt.alloc();
-    match repeated(alloc, b"select\n", 4_096) {
-        Ok(lines) => assert_eq!(rt; fault_behind(alloc, &lines), None),
+    match repeated(alloc, b"", b"select\n", 4_096, b"") {
+        Ok(lines) => assert!(rt; is_read_behind(alloc, &lines)),
         Err(_) => assert!(rt; false),
     }
-    match repeated(alloc, b"select\n", 4_097) {
-        Ok(lines) => assert_eq!(rt;
-            fault_behind(alloc, &lines),
-            Some((4_099, ScriptFaultKind::Limit))
-        ),
+    match repeated(alloc, b"", b"select\n", 4_097, b"") {
+        Ok(lines) => assert!(rt; is_refused_behind(alloc, &lines, 4_099, Limit)),
+        Err(_) => assert!(rt; false),
+    }
+}
+
+#[test]
+fn names_the_item_past_the_limit(rt: HostRuntime) {
+    let alloc = rt.alloc();
+    match repeated(alloc, b"schedule\n", b"a ", 1_048_576, b"\n") {
+        Ok(lines) => assert!(rt; is_read_behind(alloc, &lines)),
+        Err(_) => assert!(rt; false),
+    }
+    match repeated(alloc, b"schedule\n", b"a ", 1_048_576, b"\na\n") {
+        Ok(lines) => assert!(rt; is_refused_behind(alloc, &lines, 5, Limit)),
+        Err(_) => assert!(rt; false),
+    }
+}
+
+/// A header, and as many sessions as asked, each of another name of two letters; then the end.
+fn sessions(alloc: Global, count: u8, end: &[u8]) -> Result<Vec<u8>, AllocError> {
+    let mut bytes = Vec::from_slice(alloc, b"table (k long not null)\n")?;
+    for i in 0..count {
+        bytes.extend_from_slice(b"session ")?;
+        bytes.push(b'a' + i / 8)?;
+        bytes.push(b'a' + i % 8)?;
+        bytes.push(b'\n')?;
+    }
+    bytes.extend_from_slice(end)?;
+    Ok(bytes)
+}
+
+#[test]
+fn names_the_session_past_the_limit(rt: HostRuntime) {
+    let alloc = rt.alloc();
+    match sessions(alloc, 64, b"select\n") {
+        Ok(bytes) => assert!(rt; is_read(alloc, &bytes)),
+        Err(_) => assert!(rt; false),
+    }
+    match sessions(alloc, 65, b"") {
+        Ok(bytes) => assert!(rt; is_refused(alloc, &bytes, 66, Limit)),
+        Err(_) => assert!(rt; false),
+    }
+    match sessions(alloc, 64, b"session aa\n") {
+        Ok(bytes) => assert!(rt; is_refused(alloc, &bytes, 66, Session)),
         Err(_) => assert!(rt; false),
     }
 }
