@@ -4,3 +4,6 @@
 mod state;
 
 pub use state::State;
+
+#[cfg(test)]
+mod tests;
