@@ -1,10 +1,8 @@
 -- What follows a phase of one call may be weakened, and is told by its answer.
 use Rattle.std.proofs.Common.{◌≡◌, ℕ, List, [], ◌∷◌, refl}
-use Rattle.edge_api.specs.declared.call.Call.TheVariants.{Get, PutNew, List as ListNames, Now}
 use Rattle.edge_api.specs.declared.call.Answer.{Answer}
 use Rattle.edge_api.specs.declared.call.Answer.TheVariants.{Fault, Body, Missing, Stored, Taken, Names, Gone, Time, Waited}
 use Rattle.edge_api.specs.declared.call.Listed.{Listed}
-use Rattle.edge_api.specs.declared.call.JournalEntry.{JournalEntry}
 use Rattle.call_phases.specs.Phases.{Entries, OnTime, OnNames, OnGot, OnPut, AtNow, AtList, AtGet, AtPutNew}
 
 -- by the answer

@@ -7,3 +7,4 @@ pub mod Answered
 pub mod Machine
 pub mod Place
 pub mod Txn
+pub mod Plain

@@ -6,10 +6,15 @@ mod judge;
 mod listing;
 mod machine;
 mod place;
+mod plain;
 mod stage;
 mod texts;
 mod txn;
 
 pub use judge::CommitJudge;
+pub use plain::{DataFile, replay};
 pub use stage::{Ahead, Attempting, DataPut, Files, Listing, Loading, Plan, Stage, Start};
 pub use txn::{Finish, Txn};
+
+#[cfg(test)]
+mod tests;

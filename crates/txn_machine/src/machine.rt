@@ -50,7 +50,7 @@ fn all_rows(alloc: Global, files: Vec<ScannedFile>) -> Result<Vec<Row>, AllocErr
 }
 
 /// The rows in order.
-fn sort_rows(rows: &mut [Row])
+pub fn sort_rows(rows: &mut [Row])
     ensures { Sorts rows.old rows.new }
 {
     row_order_is_total();

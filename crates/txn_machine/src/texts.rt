@@ -1,5 +1,5 @@
 // Commits and data files that were got.
-ghost use Rattle.std.specs.Prelude.{◌≡◌, ◌≤◌, suc, length, Some, IfOk, IfErr, OnOk};
+ghost use Rattle.std.specs.Prelude.{◌≡◌, ◌≤◌, suc, length, Some, IfOk, IfErr, OnOk, OnErr};
 ghost use Rattle.txn_machine.specs.Texts.{read_commit, commit_fault, read_file, file_fault};
 ghost use Rattle.txn_machine.specs.Reading.{Extends, IsUnread, unread_by};
 
@@ -29,7 +29,7 @@ fn fault_of(fault: TextFault) -> Unread
     }
 }
 
-/// Applies a version's commit to the table.
+/// Applies a version's commit to the table. After an error nothing has changed.
 pub fn apply_commit(
     alloc: Global,
     state: &mut State,
@@ -38,6 +38,7 @@ pub fn apply_commit(
 ) -> Result<(), Unread>
     ensures ok { OnOk result (Extends (read_commit version text.now) state.old state.new) }
     ensures err { IfErr result (IsUnread (read_commit version text.now) (commit_fault version text.now)) }
+    ensures same { OnErr result (state.new ≡ state.old) }
     ensures more { length state.new.files ≤ suc (length state.old.files) }
 {
     if version == 0 {

@@ -69,16 +69,6 @@ impl Txn {
         }
     }
 
-    /// The reply, once the statement is done.
-    pub fn reply(&self) -> Option<&Reply>
-        ensures { IfSome result (λ reply. self.now.stage ≡ Stage.Done reply.now) }
-    {
-        match &self.stage {
-            Stage::Done(reply) => Some(reply),
-            _ => None,
-        }
-    }
-
     /// The reply of a statement that is done.
     pub fn finish(self) -> Finish
         requires ready { IsReady self }

@@ -1,0 +1,22 @@
+use crate::State;
+use edge_api::Name;
+use line_texts::read_columns;
+use std::test::Fail;
+
+#[test]
+fn files_are_live_once_in_byte_order(rt: HostRuntime) -> Result<(), Fail> {
+    let alloc = rt.alloc();
+    let mut state = State::new(alloc);
+    assert_eq!(rt; state.file_count(), 0);
+    state.set_columns(read_columns(alloc, b"columns id\n").expect(&rt, "it reads"));
+    for path in ["b", "a", "b", "C"] {
+        state.add_file(Name::make(alloc, path)?)?;
+    }
+    assert_eq!(rt; state.file_count(), 3);
+    let mut text = String::new(alloc);
+    for path in state.paths(alloc)?.iter() {
+        text.push_str(path.as_str())?;
+    }
+    assert_eq!(rt; text.as_str(), "Cab");
+    Ok(())
+}
