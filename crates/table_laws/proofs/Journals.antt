@@ -30,7 +30,7 @@ use Rattle.table_laws.specs.Effects as effects
 use Rattle.table_laws.specs.Conflicts.{Level}
 use Rattle.table_laws.specs.History.{Put, put_under, body_of, put_if_free, puts_of, if_done, puts_at, history}
 use Rattle.table_laws.specs.Runs.{same_tag, own, or_first, listed_by, told_by, version_put, with_version, versions_put, first_given, GotIn, StoredIn}
-use Rattle.table_laws.proofs.Lawful.{Known, PutIn, NoPut, first_past, Knows, versions_down, AllWon, IsCommitOf, MayPut, IsFile, IsTable, IsCommit, LawfulBy, AllLawful}
+use Rattle.table_laws.proofs.Lawful.{Known, PutIn, NoPut, first_past, Knows, versions_down, IsCommitOf, MayPut, IsFile, IsTable, IsCommit, LawfulBy, AllLawful}
 use Rattle.table_laws.proofs.Known.{knows_more}
 use Rattle.table_laws.proofs.Phases.{same_put}
 use Rattle.table_laws.proofs.Statements.{commit_put, data_put}

@@ -25,7 +25,7 @@ use Rattle.table_laws.specs.Files.{live_by, rows_in, rows_under, lines_of}
 use Rattle.table_laws.specs.Effects.{may_match, new_rows, new_file, effect_of}
 use Rattle.table_laws.specs.Conflicts.{Level, Serializable}
 use Rattle.table_laws.specs.History.{Put, put_under, body_of, or_nothing, commit_at, rows_of, history, IsCommitted}
-use Rattle.table_laws.specs.Runs.{own, listed_by, versions_put, GotIn, StoredIn, SessionKnows, IsAnsweredPart, IsRun}
+use Rattle.table_laws.specs.Runs.{own, listed_by, GotIn, StoredIn, SessionKnows, IsAnsweredPart, IsRun}
 use Rattle.table_laws.specs.Laws.{statement_of, operation_by, inserted_by, appended, Step, versions_from, IsWonBefore, Lands, HasCommitted, HasRead, EachVersionIsSerial, FirstVersionIsEmpty, EachStatementCommitsOnce, EachCommitLands, EachReplyCommitted, EachReplyRead}
 use Rattle.table_laws.proofs.Bags.{count_of-append}
 use Rattle.table_laws.proofs.Files.{times, is_one, times-placed, times-without_other, times-without_same}

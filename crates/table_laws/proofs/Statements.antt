@@ -27,7 +27,7 @@ use Rattle.call_phases.specs.Phases.{Entries}
 use Rattle.committer.specs.declared.judge.Verdict.TheVariants as verdict
 use Rattle.txn_machine.specs.declared.judge.CommitJudge.{CommitJudge}
 use Rattle.txn_machine.specs.Judging.{verdict_of}
-use Rattle.txn_machine.specs.Phases.{IsCutShort, Ends, Cut, commit_of, commit_version, newest, missing, AtLoad, AtFiles}
+use Rattle.txn_machine.specs.Phases.{IsCutShort, Ends, Cut, commit_of, newest, missing, AtLoad, AtFiles}
 use Rattle.txn_machine.specs.Texts.{read_commit, read_file}
 use Rattle.txn_machine.specs.Answered.{Kept, retention, version_limit, IsSelected, IsReplied, load_from, load_count, load_base, names_of, AtCommit, committed, Appends, Selects, AfterLoad, Loads, Makes, AfterListing, Answered}
 use Rattle.table_laws.specs.Bags.{Row}
@@ -36,7 +36,7 @@ use Rattle.table_laws.specs.Operations as operations
 use Rattle.table_laws.specs.Effects.{effect_of}
 use Rattle.table_laws.specs.Conflicts.{Level}
 use Rattle.table_laws.specs.Runs.{or_first, listed_by, told_by, version_put, with_version, versions_put, GotIn, StoredIn, LoadedTo, KeptPart}
-use Rattle.table_laws.proofs.Lawful.{Known, NoPut, AllLost, first_past, judge_of, AllScanned, Cleared, Knows, versions_down, AllWon, ClaimOf, ClaimsRows, Claim, IsFile, IsTable, IsCommit, AllLawful}
+use Rattle.table_laws.proofs.Lawful.{Known, NoPut, AllLost, first_past, judge_of, AllScanned, Cleared, Knows, versions_down, AllWon, ClaimsRows, Claim, IsFile, IsTable, IsCommit, AllLawful}
 use Rattle.table_laws.proofs.Known.{loaded_more, knows_more, scanned_more, scanned_push}
 use Rattle.table_laws.proofs.Phases.{same_put, now_no_put, list_no_put, none_put, no_commit_put, lost_other, lost_to, given_more, known_more, Fresh, fresh_get, ended, was_cut, if_read, at_now, at_list, at_get, at_put_new, at_load, at_attempt}
 use Rattle.table_laws.proofs.Texts.{append_says}
