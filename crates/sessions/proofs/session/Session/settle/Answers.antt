@@ -4,7 +4,7 @@ use Rattle.txn_machine.specs.declared.txn.Txn.{Txn}
 use Rattle.txn_machine.specs.Machine.{left_of}
 use Rattle.sessions.specs.Session.{later_plans, RestBy, count_now, left_now}
 use Rattle.sessions.proofs.Sessions.{begun_left}
-use Rattle.sessions.proofs.Stands.{next_is, goes_further, goes_on_by, goes_on_none}
+use Rattle.sessions.proofs.Stands.{next_is, goes_further, goes_on_none}
 use Rattle.sessions.proofs.session.Session.settle.Goals as goal
 
 pub turns-preserved : goal.turns-preserved
