@@ -6,3 +6,4 @@ pub mod HeaderLaws
 pub mod SkippingLaws
 pub mod WritingLaws
 pub mod PlainLemmas
+pub mod FaultLaws

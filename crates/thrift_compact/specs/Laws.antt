@@ -1,13 +1,14 @@
 -- Reading gives exactly what the relations say, and what is written reads back.
-use Rattle.std.specs.Prelude.{◌≡◌, ◌↔◌, ℕ, ◌+◌, ◌^◌, ◌<◌, ◌≤◌, false, true, List, [], ◌∷◌, ◌++◌, length, ℤ, Result, Ok}
+use Rattle.std.specs.Prelude.{◌≡◌, ◌↔◌, ℕ, ◌+◌, ◌^◌, ◌<◌, ◌≤◌, false, true, List, [], ◌∷◌, ◌++◌, length, ℤ, Result, Ok, Err}
 use Rattle.thrift_compact.specs.declared.fault.ThriftFault.{ThriftFault}
+use Rattle.thrift_compact.specs.declared.fault.ThriftFault.TheVariants as faults
 use Rattle.thrift_compact.specs.declared.wire.Wire.{Wire}
 use Rattle.thrift_compact.specs.declared.wire.Field.TheVariants as fields
 use Rattle.thrift_compact.specs.Varints.{zigzag}
 use Rattle.thrift_compact.specs.Values.{number_at, binary_at, field_at, list_at, fits_16}
 use Rattle.thrift_compact.specs.Skipped.{skipped_at}
 use Rattle.thrift_compact.specs.Writing.{number_bytes, binary_bytes, list_bytes, field_bytes}
-use Rattle.thrift_compact.specs.Spelled.{SpellsNumber, SpellsBinary, SpellsList, SpellsField, SpellsValue}
+use Rattle.thrift_compact.specs.Spelled.{IsVarint, SpellsNumber, SpellsBinary, SpellsList, SpellsField, SpellsValue}
 
 -- a text stands in bytes from a place up to another
 pub record Stands (bytes : List ℕ) (at : ℕ) (text : List ℕ) (end : ℕ) : Type 0 where
@@ -24,6 +25,21 @@ ReadsExactly {A} bytes at read spells =
 
 abbrev pub NumbersReadExactly : Type 0
 NumbersReadExactly = (bytes : List ℕ) (at : ℕ) → at ≤ length bytes → ReadsExactly bytes at (number_at bytes at) SpellsNumber
+
+-- bytes that all say that the number goes on
+unfoldable pub GoOn : List ℕ → Type 0
+GoOn [] = Unit {0}
+GoOn (byte ∷ bytes) = (128 ≤ byte) × GoOn bytes
+
+-- No number stands at a place: the bytes end inside it, or it has more than ten bytes, or more than 64 bits.
+pub data NumberFault (bytes : List ℕ) (at : ℕ) : ThriftFault → Type 0 where
+  cut : (text : List ℕ) → GoOn text → length text < 10 → Stands bytes at text (length bytes) → NumberFault bytes at (faults.Short (length bytes))
+  many : (text : List ℕ) (end : ℕ) → GoOn text → length text ≡ 10 → Stands bytes at text end → NumberFault bytes at (faults.Long at)
+  wide : (text : List ℕ) (end number : ℕ) → IsVarint text number → length text ≤ 10 → 2 ^ 64 ≤ number → Stands bytes at text end
+      → NumberFault bytes at (faults.Long at)
+
+abbrev pub NumbersFailExactly : Type 0
+NumbersFailExactly = (bytes : List ℕ) (at : ℕ) (fault : ThriftFault) → at ≤ length bytes → (number_at bytes at ≡ Err fault) ↔ NumberFault bytes at fault
 
 abbrev pub BinariesReadExactly : Type 0
 BinariesReadExactly = (bytes : List ℕ) (at : ℕ) → at ≤ length bytes → ReadsExactly bytes at (binary_at bytes at) SpellsBinary

@@ -1,11 +1,13 @@
 //! Laws of reading and writing.
 
 ghost use Rattle.std.specs.Prelude.{◌≡◌};
-ghost use Rattle.thrift_compact.specs.Laws.{NumbersReadExactly, BinariesReadExactly, ListsReadExactly, FieldsReadExactly, ValuesSkipExactly, NumbersReadBack, BinariesReadBack, ListsReadBack, FieldsReadBack, StopsReadBack};
+ghost use Rattle.thrift_compact.specs.Laws.{NumbersReadExactly, NumbersFailExactly, BinariesReadExactly, ListsReadExactly, FieldsReadExactly, ValuesSkipExactly, NumbersReadBack, BinariesReadBack, ListsReadBack, FieldsReadBack, StopsReadBack};
 
-/// Each call of a cursor reads a value exactly where bytes of this value stand (Thrift compact protocol).
+/// Each call of a cursor reads a value exactly where bytes of this value stand (Thrift compact protocol), and a number
+/// fails exactly where its bytes end, or are more than ten, or have more than 64 bits.
 pub fn reading_is_exact()
     ensures numbers { NumbersReadExactly }
+    ensures numbers_fail { NumbersFailExactly }
     ensures binaries { BinariesReadExactly }
     ensures lists { ListsReadExactly }
     ensures fields { FieldsReadExactly }

@@ -1,10 +1,14 @@
 use Rattle.thrift_compact.proofs.ReadingLaws.{number_found, number_only, binary_found, binary_only}
 use Rattle.thrift_compact.proofs.HeaderLaws.{list_found, list_only, field_found, field_only}
 use Rattle.thrift_compact.proofs.SkippingLaws.{skipped_found, skipped_taken}
+use Rattle.thrift_compact.proofs.FaultLaws.{number_fault_found, number_fault_only}
 use Rattle.thrift_compact.proofs.laws.reading_is_exact.Goals as goal
 
 pub returns-clause-numbers : goal.returns-clause-numbers
 returns-clause-numbers c = λ bytes at within value end. (number_found bytes at value end within, λ h. number_only bytes at value end h.0 h.1 h.2)
+
+pub returns-clause-numbers_fail : goal.returns-clause-numbers_fail
+returns-clause-numbers_fail c = λ bytes at fault within. (number_fault_found bytes at fault within, number_fault_only bytes at fault)
 
 pub returns-clause-binaries : goal.returns-clause-binaries
 returns-clause-binaries c = λ bytes at within value end. (binary_found bytes at value end within, λ h. binary_only bytes at value end h.0 h.1 h.2)
