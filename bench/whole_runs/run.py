@@ -3,14 +3,14 @@
 
 Usage: run.py PROGRAM, the built program, whose word `step` reads a script from standard input. Prints three tables: a
 script of 10 MB of inserted rows; one session of one-row inserts with a select after each hundredth; many sessions that
-append in turn, one store call each. Each run is the best of three. Benchmarks are no tests: nothing is judged here.
+append in turn, one store call each. A run's time is its processor time, the best of three. Benchmarks are no tests:
+nothing is judged here.
 """
 import os
 import platform
 import subprocess
 import sys
 import tempfile
-import time
 
 START_WORDS = "table (id long not null, v long not null)\n"
 RUNS = 3
@@ -24,17 +24,16 @@ def processor():
 
 
 def run(program, script, runs=RUNS):
-    """The least time in seconds, the peak memory in MB and the replies."""
+    """The least processor time in seconds, the peak memory in MB and the replies."""
     best, peak, replies = None, 0.0, b""
     with tempfile.TemporaryFile() as source:
         source.write(script.encode())
         for _ in range(runs):
             source.seek(0)
             with tempfile.TemporaryFile() as sink:
-                start = time.perf_counter()
                 child = subprocess.Popen([program, "step"], stdin=source, stdout=sink)
                 _, status, usage = os.wait4(child.pid, 0)
-                taken = time.perf_counter() - start
+                taken = usage.ru_utime + usage.ru_stime
                 child.returncode = os.waitstatus_to_exitcode(status)
                 if child.returncode != 0:
                     sys.exit(f"the run ended with {child.returncode}")
