@@ -73,7 +73,7 @@ wire_found code wire e = elim (pick code 1 wires.True wire _ e) [
       ]
 ]
 
-wire_again : (wire : Wire) → wire_of (code_of wire) ≡ Some wire
+pub wire_again : (wire : Wire) → wire_of (code_of wire) ≡ Some wire
 wire_again wires.True = refl
 wire_again wires.False = refl
 wire_again wires.Byte = refl
@@ -114,7 +114,7 @@ known_only code at wire e = ap (λ k. known (wire_of k) at) e ∙ ap (λ o. know
 -- ---- lists
 
 -- what stands behind the byte of a list's header
-abbrev list_rest : List ℕ → ℕ → ℕ → Wire → Result (ListHead × ℕ) ThriftFault
+abbrev pub list_rest : List ℕ → ℕ → ℕ → Wire → Result (ListHead × ℕ) ThriftFault
 list_rest bytes byte from wire =
     cond (eqb (byte / 16) 15) (size_at bytes from >>= λ size. Ok (record { wire = wire; count = size.0 }, size.1))
     (Ok (record { wire = wire; count = byte / 16 }, from))
@@ -155,7 +155,7 @@ list_found bytes at value end e =
     list_rest_found bytes at p.0.0 p.0.1 q.0 value end (byte_found bytes at p.0.0 p.0.1 p.1) (known_found (p.0.0 % 16) at q.0 q.1) q.2
 
 -- the byte of a list's header is read
-list_begins : (bytes : List ℕ) (at byte from : ℕ) (wire : Wire) → Stands bytes at (byte ∷ []) from → byte % 16 ≡ code_of wire
+pub list_begins : (bytes : List ℕ) (at byte from : ℕ) (wire : Wire) → Stands bytes at (byte ∷ []) from → byte % 16 ≡ code_of wire
     → list_at bytes at ≡ list_rest bytes byte from wire
 unfolding list_at
 list_begins bytes at byte from wire stands typed =
@@ -177,7 +177,7 @@ list_only bytes at value end text (long byte size typed full counted) s =
 -- ---- fields
 
 -- what stands behind the byte of a field's header
-abbrev field_rest : List ℕ → ℤ → ℕ → ℕ → ℕ → Wire → Result (Field × ℕ) ThriftFault
+abbrev pub field_rest : List ℕ → ℤ → ℕ → ℕ → ℕ → Wire → Result (Field × ℕ) ThriftFault
 field_rest bytes last at byte from wire =
     cond (ltb byte 16) (number_at bytes from >>= λ id. field_here at id.0 wire id.1) (field_here at (last +ℤ pos (byte / 16)) wire from)
 
@@ -235,7 +235,7 @@ field_found bytes last at value end e =
     ]
 
 -- the byte of a field's header is read
-field_begins : (bytes : List ℕ) (last : ℤ) (at byte from : ℕ) (wire : Wire) → Stands bytes at (byte ∷ []) from → byte % 16 ≡ code_of wire
+pub field_begins : (bytes : List ℕ) (last : ℤ) (at byte from : ℕ) (wire : Wire) → Stands bytes at (byte ∷ []) from → byte % 16 ≡ code_of wire
     → field_at bytes last at ≡ field_rest bytes last at byte from wire
 unfolding field_at
 field_begins bytes last at byte from wire stands typed =

@@ -7,3 +7,4 @@ pub mod SkippingLaws
 pub mod WritingLaws
 pub mod PlainLemmas
 pub mod FaultLaws
+pub mod HeaderFaults

@@ -1,5 +1,5 @@
 -- Reading gives exactly what the relations say, and what is written reads back.
-use Rattle.std.specs.Prelude.{◌≡◌, ◌↔◌, ℕ, ◌+◌, ◌^◌, ◌<◌, ◌≤◌, false, true, List, [], ◌∷◌, ◌++◌, length, ℤ, Result, Ok, Err}
+use Rattle.std.specs.Prelude.{◌≡◌, ◌≢◌, ◌↔◌, ℕ, ◌+◌, ◌/◌, ◌%◌, ◌^◌, ◌<◌, ◌≤◌, false, true, List, [], ◌∷◌, ◌++◌, length, ℤ, pos, ◌+ℤ◌, Result, Ok, Err}
 use Rattle.thrift_compact.specs.declared.fault.ThriftFault.{ThriftFault}
 use Rattle.thrift_compact.specs.declared.fault.ThriftFault.TheVariants as faults
 use Rattle.thrift_compact.specs.declared.wire.Wire.{Wire}
@@ -7,8 +7,8 @@ use Rattle.thrift_compact.specs.declared.wire.Field.TheVariants as fields
 use Rattle.thrift_compact.specs.Varints.{zigzag}
 use Rattle.thrift_compact.specs.Values.{number_at, binary_at, field_at, list_at, fits_16}
 use Rattle.thrift_compact.specs.Skipped.{skipped_at}
-use Rattle.thrift_compact.specs.Writing.{number_bytes, binary_bytes, list_bytes, field_bytes}
-use Rattle.thrift_compact.specs.Spelled.{IsVarint, SpellsNumber, SpellsBinary, SpellsList, SpellsField, SpellsValue}
+use Rattle.thrift_compact.specs.Writing.{code_of, number_bytes, binary_bytes, list_bytes, field_bytes}
+use Rattle.thrift_compact.specs.Spelled.{IsVarint, SpellsVarint, SpellsSize, SpellsNumber, SpellsBinary, SpellsList, SpellsField, SpellsValue}
 
 -- a text stands in bytes from a place up to another
 pub record Stands (bytes : List ℕ) (at : ℕ) (text : List ℕ) (end : ℕ) : Type 0 where
@@ -40,6 +40,50 @@ pub data NumberFault (bytes : List ℕ) (at : ℕ) : ThriftFault → Type 0 wher
 
 abbrev pub NumbersFailExactly : Type 0
 NumbersFailExactly = (bytes : List ℕ) (at : ℕ) (fault : ThriftFault) → at ≤ length bytes → (number_at bytes at ≡ Err fault) ↔ NumberFault bytes at fault
+
+-- no size stands at a place: no number, or one of more than 32 bits
+pub data SizeFault (bytes : List ℕ) (at : ℕ) : ThriftFault → Type 0 where
+  varint : {fault : ThriftFault} → NumberFault bytes at fault → SizeFault bytes at fault
+  large : (text : List ℕ) (end size : ℕ) → SpellsVarint text size → 2 ^ 32 ≤ size → Stands bytes at text end → SizeFault bytes at (faults.Long at)
+
+-- no bytes behind their length stand at a place: no size, or the bytes end before so many
+pub data BinaryFault (bytes : List ℕ) (at : ℕ) : ThriftFault → Type 0 where
+  length_fault : {fault : ThriftFault} → SizeFault bytes at fault → BinaryFault bytes at fault
+  content : (text : List ℕ) (from size : ℕ) → SpellsSize text size → Stands bytes at text from → length bytes < from + size
+      → BinaryFault bytes at (faults.Short (length bytes))
+
+-- no wire type has this number
+abbrev pub IsUnknown : ℕ → Type 0
+IsUnknown code = (wire : Wire) → code ≢ code_of wire
+
+-- no header of a list stands at a place: nothing stands there, or the type is unknown, or the size behind it is none
+pub data ListFault (bytes : List ℕ) (at : ℕ) : ThriftFault → Type 0 where
+  past : at ≡ length bytes → ListFault bytes at (faults.Short (length bytes))
+  unknown : (byte from : ℕ) → Stands bytes at (byte ∷ []) from → IsUnknown (byte % 16) → ListFault bytes at (faults.Wire at)
+  sized : {fault : ThriftFault} (byte from : ℕ) (wire : Wire) → Stands bytes at (byte ∷ []) from → byte % 16 ≡ code_of wire → byte / 16 ≡ 15
+      → SizeFault bytes from fault → ListFault bytes at fault
+
+-- no header of a field stands at a place: nothing stands there, or the type is unknown, or the id behind it is no number,
+-- or the id has more than 16 bits
+pub data FieldFault (bytes : List ℕ) (last : ℤ) (at : ℕ) : ThriftFault → Type 0 where
+  past : at ≡ length bytes → FieldFault bytes last at (faults.Short (length bytes))
+  unknown : (byte from : ℕ) → Stands bytes at (byte ∷ []) from → byte ≢ 0 → IsUnknown (byte % 16) → FieldFault bytes last at (faults.Wire at)
+  numbered : {fault : ThriftFault} (byte from : ℕ) (wire : Wire) → Stands bytes at (byte ∷ []) from → byte ≡ code_of wire
+      → NumberFault bytes from fault → FieldFault bytes last at fault
+  large_id : (byte from end : ℕ) (wire : Wire) (number : List ℕ) (id : ℤ) → Stands bytes at (byte ∷ []) from → byte ≡ code_of wire
+      → SpellsNumber number id → Stands bytes from number end → fits_16 id ≡ false → FieldFault bytes last at (faults.Long at)
+  large_sum : (byte from : ℕ) (wire : Wire) → Stands bytes at (byte ∷ []) from → byte % 16 ≡ code_of wire → 16 ≤ byte
+      → fits_16 (last +ℤ pos (byte / 16)) ≡ false → FieldFault bytes last at (faults.Long at)
+
+abbrev pub BinariesFailExactly : Type 0
+BinariesFailExactly = (bytes : List ℕ) (at : ℕ) (fault : ThriftFault) → at ≤ length bytes → (binary_at bytes at ≡ Err fault) ↔ BinaryFault bytes at fault
+
+abbrev pub ListsFailExactly : Type 0
+ListsFailExactly = (bytes : List ℕ) (at : ℕ) (fault : ThriftFault) → at ≤ length bytes → (list_at bytes at ≡ Err fault) ↔ ListFault bytes at fault
+
+abbrev pub FieldsFailExactly : Type 0
+FieldsFailExactly = (bytes : List ℕ) (last : ℤ) (at : ℕ) (fault : ThriftFault) → at ≤ length bytes
+    → (field_at bytes last at ≡ Err fault) ↔ FieldFault bytes last at fault
 
 abbrev pub BinariesReadExactly : Type 0
 BinariesReadExactly = (bytes : List ℕ) (at : ℕ) → at ≤ length bytes → ReadsExactly bytes at (binary_at bytes at) SpellsBinary

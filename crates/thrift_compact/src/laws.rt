@@ -1,16 +1,19 @@
 //! Laws of reading and writing.
 
 ghost use Rattle.std.specs.Prelude.{◌≡◌};
-ghost use Rattle.thrift_compact.specs.Laws.{NumbersReadExactly, NumbersFailExactly, BinariesReadExactly, ListsReadExactly, FieldsReadExactly, ValuesSkipExactly, NumbersReadBack, BinariesReadBack, ListsReadBack, FieldsReadBack, StopsReadBack};
+ghost use Rattle.thrift_compact.specs.Laws.{NumbersReadExactly, NumbersFailExactly, BinariesFailExactly, ListsFailExactly, FieldsFailExactly, BinariesReadExactly, ListsReadExactly, FieldsReadExactly, ValuesSkipExactly, NumbersReadBack, BinariesReadBack, ListsReadBack, FieldsReadBack, StopsReadBack};
 
-/// Each call of a cursor reads a value exactly where bytes of this value stand (Thrift compact protocol), and a number
-/// fails exactly where its bytes end, or are more than ten, or have more than 64 bits.
+/// Each call of a cursor reads a value exactly where bytes of this value stand (Thrift compact protocol), and all but
+/// `skip` fail exactly where the relations of faults say, with the fault's place.
 pub fn reading_is_exact()
     ensures numbers { NumbersReadExactly }
     ensures numbers_fail { NumbersFailExactly }
     ensures binaries { BinariesReadExactly }
+    ensures binaries_fail { BinariesFailExactly }
     ensures lists { ListsReadExactly }
+    ensures lists_fail { ListsFailExactly }
     ensures fields { FieldsReadExactly }
+    ensures fields_fail { FieldsFailExactly }
     ensures values { ValuesSkipExactly }
 {}
 

@@ -2,6 +2,7 @@ use Rattle.thrift_compact.proofs.ReadingLaws.{number_found, number_only, binary_
 use Rattle.thrift_compact.proofs.HeaderLaws.{list_found, list_only, field_found, field_only}
 use Rattle.thrift_compact.proofs.SkippingLaws.{skipped_found, skipped_taken}
 use Rattle.thrift_compact.proofs.FaultLaws.{number_fault_found, number_fault_only}
+use Rattle.thrift_compact.proofs.HeaderFaults.{binary_fault_found, binary_fault_only, list_fault_found, list_fault_only, field_fault_found, field_fault_only}
 use Rattle.thrift_compact.proofs.laws.reading_is_exact.Goals as goal
 
 pub returns-clause-numbers : goal.returns-clause-numbers
@@ -21,3 +22,12 @@ returns-clause-fields c = λ bytes last at within value end. (field_found bytes 
 
 pub returns-clause-values : goal.returns-clause-values
 returns-clause-values c = λ bytes wire at within value end. (skipped_found 16 bytes wire at value end within, λ h. skipped_taken 16 bytes wire at value end h.0 h.1 h.2)
+
+pub returns-clause-binaries_fail : goal.returns-clause-binaries_fail
+returns-clause-binaries_fail c = λ bytes at fault within. (binary_fault_found bytes at fault within, binary_fault_only bytes at fault)
+
+pub returns-clause-lists_fail : goal.returns-clause-lists_fail
+returns-clause-lists_fail c = λ bytes at fault within. (list_fault_found bytes at fault within, list_fault_only bytes at fault)
+
+pub returns-clause-fields_fail : goal.returns-clause-fields_fail
+returns-clause-fields_fail c = λ bytes last at fault within. (field_fault_found bytes last at fault within, field_fault_only bytes last at fault)
