@@ -1,7 +1,6 @@
-use Rattle.std.proofs.Common.{rules, refl, ℕ, ◌∙◌, ◌≡◌, ◌≤◌, ◌<◌, [], ◌∷◌, List, length, sym, subst}
+use Rattle.std.proofs.Common.{rules, refl, ℕ, ◌∙◌, ◌≡◌, ◌≤◌, ◌<◌, [], ◌∷◌, length, sym, subst}
 use Rattle.std.specs.Prelude.{map, All}
 use Rattle.op_types.specs.declared.statement.Statement.TheVariants.{Table}
-use Rattle.op_types.specs.declared.reply.Reply.{Reply}
 use Rattle.session_runs.specs.Run.{IsPlain, Runs, FollowsItems}
 use Rattle.session_runs.proofs.Replies.{given, all_replied, all_ready, all_map, begin_long, length-map}
 use Rattle.session_runs.proofs.Laws.{is_serial}
