@@ -1,19 +1,18 @@
 -- A run of sessions is a run of a script, for which the laws of a table hold.
-use Rattle.std.proofs.Common.{◌≡◌, ◌≢◌, ◌⊎◌, inl, inr, ℕ, zero, suc, ◌+◌, ◌<◌, ◌≤◌, ◌^◌, ◌==◌, ◌&&◌, Bool, true, false, List, [], ◌∷◌, ◌++◌, length, get_or, refl, sym, ◌∙◌, ap, subst, arith}
+use Rattle.std.proofs.Common.{◌≡◌, ◌≢◌, inl, inr, ℕ, zero, suc, ◌+◌, ◌<◌, ◌≤◌, ◌^◌, ◌==◌, ◌&&◌, Bool, true, false, List, [], ◌∷◌, ◌++◌, length, refl, sym, ◌∙◌, ap, subst, arith}
 use Rattle.std.proofs.lemmas.List.{append-nil}
 use Rattle.std.proofs.lemmas.Option.{slice_get_within}
 use Rattle.std.proofs.lemmas.Bool.{lt-ltb}
 use Rattle.std.specs.List.{list_all}
 use Rattle.std.specs.Int.{w64}
 use Rattle.std.specs.Prelude.{Option, Some, None, All, slice_get, option_and_then, if◌then◌else◌, nat_lt, ℤ, pos, negsuc, FitsSigned}
-use Rattle.edge_api.specs.declared.call.JournalEntry.{JournalEntry}
 use Rattle.edge_api.specs.declared.call.Tag.{Tag}
-use Rattle.edge_api.specs.Journal.{Moment, IsLegal, entries_of}
+use Rattle.edge_api.specs.Journal.{entries_of}
 use Rattle.edge_api.specs.World.{Grows}
 use Rattle.row_base.specs.declared.row.Datum.{Datum}
 use Rattle.row_base.specs.declared.row.Datum.TheVariants as datum
 use Rattle.op_types.specs.declared.statement.Statement.{Statement}
-use Rattle.op_types.specs.declared.statement.Statement.TheVariants.{Table, Insert, Select}
+use Rattle.op_types.specs.declared.statement.Statement.TheVariants.{Table, Insert}
 use Rattle.op_types.specs.declared.statement.TableSpec.{TableSpec}
 use Rattle.op_types.specs.declared.reply.Reply.{Reply}
 use Rattle.table_rules.specs.Told.{IsTag}
@@ -26,12 +25,12 @@ use Rattle.actor_core.specs.Entries.{of_actor, same_tag, own}
 use Rattle.actor_core.proofs.Lists.{item_of, some_same, not_equal}
 use Rattle.actor_core.proofs.Owners.{own-append, own_among, same_tag-refl}
 use Rattle.actor_core.proofs.Pieces.{Told}
-use Rattle.sessions.specs.Session.{AllTagged, AllAnswered, AnsweredTo, Stops, plans_from}
+use Rattle.sessions.specs.Session.{AllTagged, AllAnswered, AnsweredTo, plans_from}
 use Rattle.table_laws.specs.Runs as laws
 use Rattle.table_laws.specs.Folded.{EachVersionIsFolded}
 use Rattle.table_laws.specs.Laws.{EachVersionIsSerial, EachStatementCommitsOnce, FirstVersionIsEmpty, EachCommitLands, EachReplyCommitted, EachReplyRead}
 use Rattle.table_laws.specs.Refused.{EachRefusalCommitsNothing}
-use Rattle.session_runs.specs.Run.{Program, IsPlain, IsLong, IsLongRow, AllReplied, IsLawful, IsSerial, Runs, scripts_of, counted, statement_of, reply_of}
+use Rattle.session_runs.specs.Run.{Program, IsPlain, IsLong, IsLongRow, AllReplied, IsSerial, Runs, scripts_of, counted, statement_of, reply_of}
 use Rattle.session_runs.proofs.Replies.{all_at}
 
 -- tags of one actor

@@ -1,5 +1,5 @@
 -- Sessions, seen by where they stand.
-use Rattle.std.proofs.Common.{◌≡◌, ℕ, suc, List, [], ◌∷◌, ◌++◌, length, map, refl, sym, ◌∙◌, ap, subst}
+use Rattle.std.proofs.Common.{◌≡◌, ℕ, suc, List, [], ◌∷◌, ◌++◌, length, map, refl, sym, ap, subst}
 use Rattle.std.proofs.lemmas.List.{length-map}
 use Rattle.std.specs.Prelude.{◌↔◌, Option, Some, None}
 use Rattle.edge_api.specs.declared.actor.Stage.TheVariants as place
@@ -15,7 +15,7 @@ use Rattle.actor_core.proofs.Pieces.{Told}
 use Rattle.actor_core.proofs.Along.{runs_along, follows_along}
 use Rattle.sessions.specs.declared.session.Session.{Session}
 use Rattle.sessions.specs.Session.{Goes, place_now, IsEntryOf, IsFurther}
-use Rattle.session_runs.specs.Run.{Begins, AllBegin}
+use Rattle.session_runs.specs.Run.{AllBegin}
 use Rattle.session_runs.specs.Order.{Under, Spot, place_in, place_at, IsEntryAt, IsNext, Passes, AllNumbered}
 
 abbrev under : Option Txn → Option Under

@@ -1,5 +1,5 @@
 -- What a run of a script's sessions over a store says.
-use Rattle.std.specs.Prelude.{◌≡◌, ◌<◌, ◌+◌, ℕ, zero, suc, List, [], ◌∷◌, Option, Some, None, All, length, slice_get, option_and_then, FitsSigned}
+use Rattle.std.specs.Prelude.{◌≡◌, ◌<◌, ℕ, zero, suc, List, [], ◌∷◌, Option, Some, None, All, length, slice_get, option_and_then, FitsSigned}
 use Rattle.std.specs.Int.{w64}
 use Rattle.edge_api.specs.declared.call.JournalEntry.{JournalEntry}
 use Rattle.edge_api.specs.declared.call.Tag.{Tag}

@@ -1,4 +1,4 @@
-use Rattle.std.proofs.Common.{◌≡◌, ◌≤◌, ◌+◌, ◌++◌, List, length}
+use Rattle.std.proofs.Common.{◌≤◌, ◌+◌, ◌++◌, List, length}
 use Rattle.std.specs.Prelude.{All, map}
 use Rattle.sessions.specs.declared.session.Session.{Session}
 use Rattle.session_runs.specs.Run.{AllBegin}

@@ -1,7 +1,6 @@
-use Rattle.std.proofs.Common.{rules, refl, ℕ, ◌∙◌, ◌≡◌, ◌≤◌, ◌<◌, [], ◌∷◌, List, length, sym, subst}
+use Rattle.std.proofs.Common.{rules, refl, ℕ, ◌∙◌, ◌≡◌, ◌≤◌, ◌<◌, [], ◌∷◌, length, sym, subst}
 use Rattle.std.specs.Prelude.{map, All}
 use Rattle.op_types.specs.declared.statement.Statement.TheVariants.{Table}
-use Rattle.op_types.specs.declared.reply.Reply.{Reply}
 use Rattle.session_runs.specs.Run.{IsPlain, Runs}
 use Rattle.session_runs.specs.Order.{FollowsItems}
 use Rattle.session_runs.proofs.Order.{seen, runs_seen, follows_seen, numbered_seen}
