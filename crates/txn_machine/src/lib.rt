@@ -15,6 +15,3 @@ pub use judge::CommitJudge;
 pub use plain::{DataFile, replay};
 pub use stage::{Ahead, Attempting, DataPut, Files, Listing, Loading, Plan, Stage, Start};
 pub use txn::{Finish, Txn};
-
-#[cfg(test)]
-mod tests;
