@@ -1,10 +1,10 @@
 -- A header, a piece and a list of pieces can be read in one way only.
-use Rattle.std.proofs.Common.{◌≡◌, ◌⊎◌, ◌≢◌, ℕ, zero, suc, ◌+◌, ◌-◌, ◌*◌, ◌/◌, ◌%◌, ◌^◌, ◌<◌, ◌≤◌, List, [], ◌∷◌, ◌++◌, length, take, drop, get_or, replicate, eqb, true, false, refl, sym, ap, ◌∙◌, subst, arith, append_assoc, inl, inr}
+use Rattle.std.proofs.Common.{◌≡◌, ◌⊎◌, ℕ, ◌+◌, ◌-◌, ◌*◌, ◌/◌, ◌%◌, ◌<◌, ◌≤◌, List, ◌++◌, length, take, drop, replicate, eqb, true, false, refl, sym, ap, ◌∙◌, subst, arith, append_assoc, inl, inr}
 use Rattle.std.proofs.lemmas.Bool.{cases_order, eq-eqb, ne_eqb}
-use Rattle.std.proofs.lemmas.List.{length-append, take-append-le, append-nil, same_lists, get_or_default}
-use Rattle.bit_pack.specs.Bits.{Packed, value_at, most_values}
+use Rattle.std.proofs.lemmas.List.{length-append, take-append-le, same_lists, get_or_default}
+use Rattle.bit_pack.specs.Bits.{Packed}
 use Rattle.bit_pack.specs.Numbers.{number_in}
-use Rattle.bit_pack.specs.Hybrid.{varint_number, IsHeader, IsLongHeader, IsCutHeader, IsRun, IsStretch, IsPiece, run, stretch, Pieces, none, more, Reads, StopsAt, byte_width, header_values, header_bytes, HasLargeHeader, EndsEarly, HasWideValue}
+use Rattle.bit_pack.specs.Hybrid.{varint_number, IsHeader, IsLongHeader, IsCutHeader, IsStretch, IsPiece, run, stretch, Pieces, none, more, Reads, StopsAt, byte_width, header_values, header_bytes, HasLargeHeader, EndsEarly, HasWideValue}
 
 one_length : (bytes : List ℕ) (a b m n : ℕ) → IsHeader bytes a m → IsHeader bytes b n → a ≡ b
 one_length bytes a b m n p q =

@@ -1,12 +1,12 @@
 -- Headers and pieces of the hybrid.
-use Rattle.std.proofs.Common.{◌≡◌, ◌⊎◌, ℕ, zero, suc, ◌+◌, ◌-◌, ◌*◌, ◌/◌, ◌%◌, ◌^◌, ◌<◌, ◌≤◌, List, [], ◌∷◌, ◌++◌, length, take, drop, get_or, min, replicate, refl, sym, ap, ◌∙◌, subst, arith, add-one, append_assoc, inl, inr, take-add, ◌≢◌}
+use Rattle.std.proofs.Common.{◌≡◌, ℕ, zero, suc, ◌+◌, ◌-◌, ◌*◌, ◌/◌, ◌%◌, ◌^◌, ◌<◌, ◌≤◌, List, [], ◌∷◌, ◌++◌, length, take, drop, get_or, min, replicate, refl, sym, ap, ◌∙◌, subst, arith, add-one, append_assoc, inl, inr, ◌≢◌}
 use Rattle.std.specs.Prelude.{bit_or}
 use Rattle.std.proofs.lemmas.Bool.{cases_lt}
 use Rattle.std.proofs.lemmas.Nat.{pow_pos, pow-add, shl_whole, or_shifted, or_comm}
-use Rattle.std.proofs.lemmas.List.{length-drop, length-take, length-append, take_at, take_all, take-append-le, take-replicate, drop-drop, take-take, append-nil, length-replicate}
-use Rattle.bit_pack.specs.Bits.{Packed, most_values}
+use Rattle.std.proofs.lemmas.List.{length-drop, length-take, take_at, take_all, take-replicate, drop-drop, append-nil, length-replicate}
+use Rattle.bit_pack.specs.Bits.{most_values}
 use Rattle.bit_pack.specs.Numbers.{number_in, fields}
-use Rattle.bit_pack.specs.Hybrid.{varint_number, IsHeader, IsRun, IsStretch, IsPiece, run, stretch, Pieces, none, more, byte_width, HasLargeHeader, EndsEarly, HasWideValue}
+use Rattle.bit_pack.specs.Hybrid.{varint_number, IsHeader, IsPiece, run, stretch, Pieces, none, more, byte_width, HasWideValue}
 use Rattle.bit_pack.specs.Steps.{AddsRun, AddsStretch, AddsPiece, ReadSoFar}
 use Rattle.bit_pack.proofs.Wholes.{IsBytes, IsBytes-drop, Packed-fields, length-fields, fields-append}
 

@@ -1,14 +1,13 @@
 -- Packed numbers, and the bytes of numbers.
-use Rattle.std.proofs.Common.{◌≡◌, ◌⊎◌, ℕ, zero, suc, ◌+◌, ◌-◌, ◌*◌, ◌/◌, ◌%◌, ◌^◌, ◌<◌, ◌≤◌, List, [], ◌∷◌, ◌++◌, length, take, drop, get_or, refl, sym, ap, ◌∙◌, arith, add-one, append_assoc, inl, inr, subst, ◌≢◌, take-add, zero-mul, replicate, ltb, mul_comm}
+use Rattle.std.proofs.Common.{◌≡◌, ◌⊎◌, ℕ, zero, suc, ◌+◌, ◌-◌, ◌*◌, ◌/◌, ◌%◌, ◌^◌, ◌<◌, ◌≤◌, List, [], ◌∷◌, ◌++◌, length, take, drop, get_or, refl, sym, ap, ◌∙◌, arith, append_assoc, inl, inr, subst, take-add, zero-mul, replicate, ltb, mul_comm}
 use Rattle.std.proofs.Math.Nat.{pow-suc, mul-zero, add-mul-div_left, add-mul-mod_self_left, div-eq_of_lt, mod-eq_of_lt, pow-le-pow_right}
-use Rattle.std.proofs.Math.Pow.{mod-mod-pow}
 use Rattle.std.specs.Int.{w32, w128, to_le_bytes, bytes_low_first, byte_at}
 use Rattle.std.specs.Prelude.{bit_or, EachIndex, SomeIndex, MatchBool, slice_index}
 use Rattle.std.proofs.lemmas.Bool.{cases_lt, le-ltb, lt-ltb}
 use borrow.Author.Count.{below_more}
-use Rattle.std.proofs.lemmas.Nat.{pow_pos, pow-add, shr-shr, mod-pow-add, shl_whole, or_shifted, mod_below, shr_high, mod_low, mul-le, shr_below, or_lt, le_or_l, le_or_r, one_shl}
+use Rattle.std.proofs.lemmas.Nat.{pow_pos, pow-add, shr-shr, mod-pow-add, shl_whole, or_shifted, mul-le, shr_below, or_lt, le_or_l, le_or_r, one_shl}
 use Rattle.std.proofs.lemmas.List.{places, same_lists, length-take, length-take-le, length-drop, get_or-take, get_or-drop, take-append-drop, drop-replicate, get_or_append_left, get_or-append_right, take_at, drop_at}
-use Rattle.bit_pack.specs.Bits.{Packs, bit_list, number_of}
+use Rattle.bit_pack.specs.Bits.{Packs}
 use Rattle.bit_pack.proofs.Wholes.{IsBytes, value_at_is, number_of-rest}
 use Rattle.bit_pack.specs.Numbers.{number_in, packed_number, bytes_of}
 

@@ -1,14 +1,14 @@
 -- What is written as the hybrid, and that it reads back.
-use Rattle.std.proofs.Common.{◌≡◌, ◌⊎◌, ℕ, zero, suc, ◌+◌, ◌-◌, ◌*◌, ◌/◌, ◌%◌, ◌^◌, ◌<◌, ◌≤◌, Bool, true, false, cond, List, [], ◌∷◌, ◌++◌, length, take, drop, get_or, min, replicate, refl, sym, ap, ◌∙◌, subst, arith, add-one, append_assoc, inl, inr, eqb, ltb, ◌&&◌}
+use Rattle.std.proofs.Common.{◌≡◌, ◌⊎◌, ℕ, zero, suc, ◌+◌, ◌-◌, ◌*◌, ◌/◌, ◌%◌, ◌^◌, ◌<◌, ◌≤◌, Bool, true, false, List, [], ◌∷◌, ◌++◌, length, take, drop, get_or, replicate, refl, sym, ap, ◌∙◌, subst, arith, append_assoc, inl, inr, eqb, ◌&&◌}
 use Rattle.std.specs.List.{list_all}
 use Rattle.std.proofs.Math.Nat.{mod-eq_of_lt}
 use Rattle.std.proofs.Math.Dec.{eqb-suc-zero}
 use Rattle.std.proofs.lemmas.Bool.{cases_lt, lt-ltb, le-ltb, eqb-true}
 use Rattle.std.proofs.lemmas.Nat.{pow_pos, pow-add, mul-le}
-use Rattle.std.proofs.lemmas.List.{length-append, length-replicate, length-drop, take_at, drop_at, take_all, append-nil, get_or_append_left, get_or-append_right}
-use Rattle.bit_pack.specs.Bits.{Packed, Packs, most_values}
+use Rattle.std.proofs.lemmas.List.{length-append, length-replicate, take_at, drop_at, take_all, append-nil, get_or_append_left, get_or-append_right}
+use Rattle.bit_pack.specs.Bits.{Packs, most_values}
 use Rattle.bit_pack.specs.Numbers.{number_in, packed_number, bytes_of}
-use Rattle.bit_pack.specs.Hybrid.{varint_number, varint_of, hybrid_of, run_of, stretch_of, IsHeader, IsRun, IsStretch, IsPiece, run, stretch, Pieces, none, more, Reads, byte_width}
+use Rattle.bit_pack.specs.Hybrid.{varint_number, varint_of, hybrid_of, run_of, stretch_of, IsHeader, IsRun, IsStretch, run, stretch, none, more, Reads, byte_width}
 use Rattle.bit_pack.proofs.Sums.{AllFit, bytes_of-zeros, packed_below, Packs-bytes, packed_number-padded, zeros_at, two_pow_le, length-bytes_of, number_in-bytes_of}
 
 -- one byte of a varint more

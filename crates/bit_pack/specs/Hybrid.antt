@@ -1,6 +1,6 @@
 -- The hybrid of runs and bit-packed stretches, as a relation between bytes and values: the Parquet format's
 -- "Run Length Encoding / Bit-Packing Hybrid" (Encodings.md, RLE = 3), without the length in front.
-use Rattle.std.specs.Prelude.{◌≡◌, ◌⊎◌, ℕ, zero, suc, ◌+◌, ◌-◌, ◌*◌, ◌/◌, ◌%◌, ◌^◌, ◌<◌, ◌≤◌, ◌==◌, nat_lt, List, [], ◌∷◌, ◌++◌, length, if◌then◌else◌, take, drop, replicate, slice_index, Bool, true, false}
+use Rattle.std.specs.Prelude.{◌≡◌, ◌⊎◌, ℕ, zero, suc, ◌+◌, ◌-◌, ◌*◌, ◌/◌, ◌%◌, ◌^◌, ◌<◌, ◌≤◌, ◌==◌, nat_lt, List, [], ◌∷◌, ◌++◌, length, if◌then◌else◌, take, drop, replicate, slice_index}
 use Rattle.std.specs.List.{list_all}
 use Rattle.bit_pack.specs.Bits.{Packed, most_values}
 use Rattle.bit_pack.specs.Numbers.{number_in, packed_number, bytes_of}

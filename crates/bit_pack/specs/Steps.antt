@@ -1,5 +1,5 @@
 -- What one step of reading the hybrid does, which the private functions speak of.
-use Rattle.std.specs.Prelude.{◌≡◌, ℕ, ◌+◌, ◌-◌, ◌*◌, ◌^◌, ◌<◌, ◌≤◌, List, ◌++◌, length, take, drop, replicate, min}
+use Rattle.std.specs.Prelude.{◌≡◌, ℕ, ◌-◌, ◌*◌, ◌^◌, ◌<◌, ◌≤◌, List, ◌++◌, length, take, drop, replicate, min}
 use Rattle.bit_pack.specs.Bits.{most_values}
 use Rattle.bit_pack.specs.Numbers.{number_in, fields}
 use Rattle.bit_pack.specs.Hybrid.{byte_width, IsPiece, Pieces}

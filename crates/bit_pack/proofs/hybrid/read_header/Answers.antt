@@ -1,4 +1,4 @@
-use Rattle.std.proofs.Common.{◌≡◌, ◌<◌, length, refl, add-one, ◌+◌, ◌-◌, below_more, arith}
+use Rattle.std.proofs.Common.{◌≡◌, ◌<◌, length, refl, ◌+◌, ◌-◌, below_more, arith}
 use Rattle.bit_pack.specs.Hybrid.{varint_number}
 use Rattle.bit_pack.proofs.PieceLemmas.{header_step}
 use Rattle.bit_pack.proofs.hybrid.read_header.Goals as goal

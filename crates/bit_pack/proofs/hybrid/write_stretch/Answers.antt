@@ -1,4 +1,4 @@
-use Rattle.std.proofs.Common.{List, ℕ, ◌≡◌, ◌≤◌, ◌++◌, ◌+◌, ◌-◌, ◌*◌, ◌/◌, ◌∙◌, ap, length, replicate, append_assoc, arith}
+use Rattle.std.proofs.Common.{List, ℕ, ◌≡◌, ◌++◌, ◌+◌, ◌-◌, ◌*◌, ◌/◌, ◌∙◌, ap, length, replicate, append_assoc, arith}
 use Rattle.bit_pack.specs.Numbers.{bytes_of, packed_number}
 use Rattle.bit_pack.specs.Hybrid.{varint_of}
 use Rattle.bit_pack.proofs.WriteLemmas.{group_room, stretch_bytes}

@@ -1,4 +1,4 @@
-use Rattle.std.proofs.Common.{List, ℕ, ◌≡◌, ◌++◌, ◌+◌, ◌*◌, ◌/◌, ◌∙◌, sym, ap, length, arith}
+use Rattle.std.proofs.Common.{List, ℕ, ◌≡◌, ◌++◌, ◌+◌, ◌*◌, ◌/◌, ◌∙◌, ap, length, arith}
 use Rattle.bit_pack.specs.Numbers.{bytes_of, packed_number}
 use Rattle.bit_pack.proofs.Sums.{Packs-bytes}
 use Rattle.bit_pack.proofs.packing.pack8.Goals as goal

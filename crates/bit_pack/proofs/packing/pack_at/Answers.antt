@@ -1,4 +1,4 @@
-use Rattle.std.proofs.Common.{List, ℕ, ◌≡◌, ◌++◌, ◌*◌, ◌/◌, ◌∙◌, ap, take, length, arith}
+use Rattle.std.proofs.Common.{List, ℕ, ◌++◌, ◌*◌, ◌/◌, ◌∙◌, ap, take, length, arith}
 use Rattle.std.proofs.lemmas.List.{take_rest}
 use Rattle.bit_pack.specs.Numbers.{bytes_of, packed_number}
 use Rattle.bit_pack.proofs.Sums.{rest_more}

@@ -1,5 +1,5 @@
-use Rattle.std.proofs.Common.{List, ℕ, ◌≡◌, ◌++◌, ◌-◌, ◌/◌, ◌+◌, ◌*◌, ◌^◌, ◌≤◌, ◌∙◌, ap, take, append_assoc, length, arith}
-use Rattle.bit_pack.specs.Numbers.{bytes_of, packed_number}
+use Rattle.std.proofs.Common.{List, ℕ, ◌≡◌, ◌++◌, ◌-◌, ◌/◌, ◌+◌, ◌*◌, ◌^◌, ◌≤◌, ◌∙◌, ap, take, append_assoc, arith}
+use Rattle.bit_pack.specs.Numbers.{bytes_of}
 use Rattle.bit_pack.proofs.Sums.{group_is, front_of_word}
 use Rattle.bit_pack.proofs.packing.pack_group.Goals as goal
 

@@ -1,4 +1,4 @@
-use Rattle.std.proofs.Common.{List, ℕ, ◌≡◌, ◌++◌, ◌≤◌, ◌*◌, ◌/◌, ◌∙◌, ap, arith}
+use Rattle.std.proofs.Common.{List, ℕ, ◌++◌, ◌*◌, ◌/◌, ◌∙◌, ap, arith}
 use Rattle.std.proofs.lemmas.Nat.{mul-le}
 use Rattle.bit_pack.specs.Numbers.{number_in, fields}
 use Rattle.bit_pack.proofs.Wholes.{rest_joined}

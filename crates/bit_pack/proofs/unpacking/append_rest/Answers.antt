@@ -1,6 +1,6 @@
-use Rattle.std.proofs.Common.{List, ℕ, ◌≡◌, ◌-◌, [], ◌∷◌, ◌++◌, ◌≤◌, ◌∙◌, sym, ap, arith}
+use Rattle.std.proofs.Common.{◌≡◌, ◌-◌, [], ◌∷◌, ◌++◌, ◌∙◌, sym, ap, arith}
 use Rattle.std.proofs.lemmas.List.{append-nil}
-use Rattle.bit_pack.specs.Numbers.{number_in, fields}
+use Rattle.bit_pack.specs.Numbers.{fields}
 use Rattle.bit_pack.proofs.Wholes.{rest_step, bytes_fit}
 use Rattle.bit_pack.proofs.unpacking.append_rest.Goals as goal
 
