@@ -8,3 +8,6 @@ mod statement;
 pub use refusal::{Clash, Feature, LogFaultKind, ObjectFault, Refusal};
 pub use reply::{CheckpointOutcome, Reply, SessionReplies};
 pub use statement::{Columns, Statement, TableSpec};
+
+#[cfg(test)]
+mod tests;

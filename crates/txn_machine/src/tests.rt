@@ -1,5 +1,6 @@
 // Statements driven call by call over a store in memory, with the calls and the replies worked out by hand.
 ghost use Rattle.std.specs.Prelude.{◌≡◌, IfOk};
+ghost use Rattle.edge_api.specs.Actor.{IsFit};
 ghost use Rattle.txn_machine.specs.Txn.{IsReady};
 
 use crate::{DataFile, Finish, Txn, replay};
@@ -36,6 +37,16 @@ fn note(text: &mut String, place: Place, call: &Call) -> Result<(), AllocError> 
     }
 }
 
+/// Makes a call of the store.
+fn made(world: &mut MemWorld, tag: Tag, call: Call) -> Fed
+    ensures { IsFit call result }
+{
+    match world.call(tag, call) {
+        Ok(answer) => Fed::Answer(answer),
+        Err(_) => Fed::NoMemory,
+    }
+}
+
 /// Makes the next call, if there is one.
 fn turn(world: &mut MemWorld, txn: &mut Txn, text: &mut String) -> Result<(), AllocError>
     requires { IsReady txn.old }
@@ -46,10 +57,8 @@ fn turn(world: &mut MemWorld, txn: &mut Txn, text: &mut String) -> Result<(), Al
         return Ok(());
     };
     note(text, place, &call)?;
-    match world.call(tag, call) {
-        Ok(answer) => txn.feed(Fed::Answer(answer)),
-        Err(_) => txn.feed(Fed::NoMemory),
-    }
+    let input = made(world, tag, call);
+    txn.feed(input);
     Ok(())
 }
 
