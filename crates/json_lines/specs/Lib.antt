@@ -1,0 +1,4 @@
+pub mod Gives
+pub mod Kinds
+pub mod Lines
+pub mod Single
