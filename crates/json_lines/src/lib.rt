@@ -8,6 +8,7 @@ mod map;
 mod member;
 mod object;
 mod value;
+mod write;
 
 pub use fault::ShapeFault;
 pub use line::{first_line, is_blank, read_object};
@@ -18,3 +19,8 @@ pub use member::{
     present,
 };
 pub use object::single_member;
+pub use write::{
+    compact_text_is_a_line, push_line, put_flag, put_integer, put_optional_flag,
+    put_optional_integer, put_optional_partition_map, put_optional_text, put_optional_text_map,
+    put_optional_texts, put_partition_map, put_text, put_text_map, put_texts, single_value,
+};
