@@ -1,0 +1,5 @@
+pub mod Paths
+pub mod Actions
+pub mod Twice
+pub mod Commit
+pub mod Named
