@@ -1,2 +1,4 @@
 pub mod Names
 pub mod Judging
+pub mod Fields
+pub mod Floats

@@ -3,3 +3,4 @@ pub mod Actions
 pub mod Twice
 pub mod Commit
 pub mod Named
+pub mod Written

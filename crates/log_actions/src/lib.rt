@@ -10,6 +10,7 @@ mod name;
 mod named;
 mod path;
 mod read;
+mod write;
 
 pub use action::{
     Action, AddFile, CheckpointMetadata, CommitInfo, Format, MetaData, Protocol, RemoveFile,
@@ -19,3 +20,4 @@ pub use commit::{MAX_COMMIT_BYTES, read_commit};
 pub use fault::{Feature, LogFault, LogFaultKind};
 pub use json_lines::{Entry, PartitionMap, PartitionValue, TextMap};
 pub use path::is_absolute;
+pub use write::write_commit;
