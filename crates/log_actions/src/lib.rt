@@ -10,6 +10,8 @@ mod name;
 mod named;
 mod path;
 mod read;
+#[cfg(test)]
+mod tests;
 mod write;
 
 pub use action::{
