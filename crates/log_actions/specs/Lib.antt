@@ -4,3 +4,5 @@ pub mod Twice
 pub mod Commit
 pub mod Named
 pub mod Written
+pub mod Grammar
+pub mod Whole

@@ -2,7 +2,9 @@
 ghost use Rattle.std.specs.Prelude.{◌≡◌, ◌+◌, ◌-◌, ◌<◌, ◌^◌, ◌∷◌, [], length, List, ℕ, IfOk, IfErr, OnOk, MatchResult, Ok};
 ghost use Rattle.json_lines.specs.Lines.{lines};
 ghost use Rattle.log_actions.specs.Named.{Holds};
-ghost use Rattle.log_actions.specs.Commit.{actions_from, actions_of, FaultOf};
+ghost use Rattle.log_actions.specs.Commit.{actions_from, actions_of, FaultOf, IsKind};
+ghost use Rattle.log_actions.specs.Grammar.{Commit, FirstWrong};
+ghost use Rattle.log_actions.specs.declared.action.Action.{Action as ActionValue};
 
 use crate::action::Action;
 use crate::fault::{LogFault, LogFaultKind};
@@ -66,10 +68,8 @@ fn take_lines(alloc: Global, bytes: &[u8]) -> Result<Vec<Action>, LogFault>
     Ok(actions)
 }
 
-/// The actions that the text of a commit says, in order, or its first wrong line. A text of more than 64 MiB is wrong
-/// at line 1, and none of it is read. The last line may lack its end, and blank lines are passed over.
 #[tactic(auto, unfolding(crate::specs::Commit::actions_of))]
-pub fn read_commit(alloc: Global, bytes: &[u8]) -> Result<Vec<Action>, LogFault>
+fn read_exactly(alloc: Global, bytes: &[u8]) -> Result<Vec<Action>, LogFault>
     ensures { MatchResult result (λ v. actions_of bytes.now ≡ Ok v.items) (λ f. FaultOf f (actions_of bytes.now)) }
 {
     if bytes.len() > MAX_COMMIT_BYTES {
@@ -79,4 +79,17 @@ pub fn read_commit(alloc: Global, bytes: &[u8]) -> Result<Vec<Action>, LogFault>
         });
     }
     take_lines(alloc, bytes)
+}
+
+/// The actions that the text of a commit says, in order, or its first wrong line. A text of more than 64 MiB is wrong
+/// at line 1, and none of it is read. The last line may lack its end, and blank lines are passed over.
+pub fn read_commit(alloc: Global, bytes: &[u8]) -> Result<Vec<Action>, LogFault>
+    ensures exact { MatchResult result (λ v. actions_of bytes.now ≡ Ok v.items)
+        (λ f. FaultOf f (actions_of bytes.now)) }
+    ensures says { IfOk result (λ v. Commit bytes.now v.items) }
+    ensures only { (actions : List ActionValue) → Commit bytes.now actions
+        → MatchResult result (λ v. v.items ≡ actions) (λ f. f.kind ≡ LogFaultKind.NoMemory) }
+    ensures wrong { IfErr result (λ f. IsKind f.kind (FirstWrong bytes.now f)) }
+{
+    read_exactly(alloc, bytes)
 }

@@ -1,9 +1,12 @@
 //! The text of actions.
-ghost use Rattle.std.specs.Prelude.{◌≡◌, ◌++◌, [], Some, IfOk, OnOk, option_map};
+ghost use Rattle.std.specs.Prelude.{◌≡◌, ◌≤◌, ◌++◌, [], length, flat_map, Some, IfOk, OnOk, option_map};
 ghost use Rattle.serde_json.specs.Data.{object};
 ghost use Rattle.serde_json.specs.View.{view, members_view};
 ghost use Rattle.json_lines.specs.Written.{with_member, single_object};
 ghost use Rattle.log_actions.specs.Written as spec;
+ghost use Rattle.log_actions.specs.Commit.{max_bytes};
+ghost use Rattle.log_actions.specs.Grammar.{Commit};
+ghost use Rattle.log_actions.specs.Whole.{AreWhole, AllReturn, ReturnsIfWhole};
 
 use crate::action::{
     Action, AddFile, CheckpointMetadata, CommitInfo, Format, MetaData, Protocol, RemoveFile,
@@ -237,7 +240,8 @@ fn action_value(alloc: Global, action: &Action) -> Result<Option<Value>, NoMemor
 }
 
 fn push_action(alloc: Global, out: &mut Vec<u8>, action: &Action) -> Result<(), NoMemory>
-    ensures { OnOk result (out.new.items ≡ out.old.items ++ spec.line_of_action action.now) }
+    ensures text { OnOk result (out.new.items ≡ out.old.items ++ spec.line_of_action action.now) }
+    ensures back { OnOk result (ReturnsIfWhole action.now) }
 {
     match action_value(alloc, action)? {
         Some(value) => {
@@ -248,15 +252,25 @@ fn push_action(alloc: Global, out: &mut Vec<u8>, action: &Action) -> Result<(), 
     }
 }
 
-/// The text of a commit: a line of compact JSON for each action, with members in byte order of their names. An ignored
-/// action is written as nothing.
-#[tactic(auto, unfolding(crate::specs::Written::text_of))]
-pub fn write_commit(alloc: Global, actions: &[Action]) -> Result<Vec<u8>, NoMemory>
-    ensures { IfOk result (λ v. v.items ≡ spec.text_of actions.now) }
+fn write_lines(alloc: Global, actions: &[Action]) -> Result<Vec<u8>, NoMemory>
+    ensures text { IfOk result (λ v. v.items ≡ flat_map spec.line_of_action actions.now) }
+    ensures back { OnOk result (AllReturn actions.now) }
 {
     let mut out = Vec::new(alloc);
     for action in actions {
         push_action(alloc, &mut out, action)?;
     }
     Ok(out)
+}
+
+/// The text of a commit: a line of compact JSON for each action, with members in byte order of their names. An ignored
+/// action is written as nothing. Actions that are whole, none of them twice, are read back from a text that is not too
+/// long.
+#[tactic(auto, unfolding(crate::specs::Written::text_of))]
+pub fn write_commit(alloc: Global, actions: &[Action]) -> Result<Vec<u8>, NoMemory>
+    ensures text { IfOk result (λ v. v.items ≡ spec.text_of actions.now) }
+    ensures back { IfOk result (λ v. AreWhole [] actions.now → length v.items ≤ max_bytes
+        → Commit v.items actions.now) }
+{
+    write_lines(alloc, actions)
 }
