@@ -12,7 +12,7 @@ mod write;
 
 pub use fault::ShapeFault;
 pub use line::{first_line, is_blank, read_object};
-pub use map::{Entry, PartitionMap, PartitionValue, TextMap};
+pub use map::{Entry, PartitionMap, PartitionValue, TextMap, copy_text};
 pub use member::{
     needed_flag, needed_integer, needed_partition_map, needed_text, needed_texts, optional_flag,
     optional_integer, optional_partition_map, optional_text, optional_text_map, optional_texts,

@@ -1,6 +1,19 @@
 //! Texts by names, as JSON objects hold them.
-use row_base::Text;
+ghost use Rattle.std.specs.Prelude.{◌≡◌, IfOk};
+
+use row_base::{NoMemory, Text};
+use std::alloc::Global;
 use std::marker::Model;
+
+/// Another owner of a text, where there is one.
+pub fn copy_text(text: &Option<Text>) -> Result<Option<Text>, NoMemory>
+    ensures { IfOk result (λ t. t ≡ text.now) }
+{
+    match text {
+        Some(text) => Ok(Some(text.copy()?)),
+        None => Ok(None),
+    }
+}
 
 /// A name with its text.
 #[derive(Debug, Drop)]
@@ -25,8 +38,6 @@ impl Model for TextMap {
 }
 
 impl TextMap {
-    ghost use Rattle.std.specs.Prelude.{◌≡◌};
-
     /// The map of these entries.
     pub fn make(entries: Vec<Entry>) -> TextMap
         ensures { result ≡ entries.items }
@@ -39,6 +50,19 @@ impl TextMap {
         ensures { result.now ≡ self.now }
     {
         self.entries.as_slice()
+    }
+
+    /// An equal map. The bytes of the texts are shared.
+    pub fn copy(&self, alloc: Global) -> Result<TextMap, NoMemory>
+        ensures { IfOk result (λ m. m ≡ self.now) }
+    {
+        let mut entries = Vec::with_capacity(alloc, self.entries.len())?;
+        for entry in self.entries.as_slice() {
+            let key = entry.key.copy()?;
+            let value = entry.value.copy()?;
+            entries.push(Entry { key, value })?;
+        }
+        Ok(TextMap { entries })
     }
 }
 
@@ -65,8 +89,6 @@ impl Model for PartitionMap {
 }
 
 impl PartitionMap {
-    ghost use Rattle.std.specs.Prelude.{◌≡◌};
-
     /// The map of these values.
     pub fn make(values: Vec<PartitionValue>) -> PartitionMap
         ensures { result ≡ values.items }
@@ -79,5 +101,18 @@ impl PartitionMap {
         ensures { result.now ≡ self.now }
     {
         self.values.as_slice()
+    }
+
+    /// An equal map. The bytes of the texts are shared.
+    pub fn copy(&self, alloc: Global) -> Result<PartitionMap, NoMemory>
+        ensures { IfOk result (λ m. m ≡ self.now) }
+    {
+        let mut values = Vec::with_capacity(alloc, self.values.len())?;
+        for entry in self.values.as_slice() {
+            let column = entry.column.copy()?;
+            let value = copy_text(&entry.value)?;
+            values.push(PartitionValue { column, value })?;
+        }
+        Ok(PartitionMap { values })
     }
 }

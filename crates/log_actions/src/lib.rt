@@ -4,6 +4,7 @@
 
 mod action;
 mod commit;
+mod copy;
 mod fault;
 mod line;
 mod name;
