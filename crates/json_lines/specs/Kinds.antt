@@ -1,0 +1,84 @@
+-- What JSON values stand for, by their kind.
+use Rattle.std.specs.Prelude.{ℕ, nat_le, List, [], ◌∷◌, if◌then◌else◌, Option, Some, None, option_and_then, option_map}
+use Rattle.serde_json.specs.Data.{Data, null, boolean, number, string, array, object, Items, no_items, item, Members, no_members, member}
+use Rattle.serde_json.specs.Find.{get, as_str, as_number, as_u64, as_array, as_object}
+use Rattle.json_lines.specs.declared.map.Entry.{Entry}
+use Rattle.json_lines.specs.declared.map.PartitionValue.{PartitionValue}
+
+abbrev pub up_to : ℕ → ℕ → Option ℕ
+up_to limit n = if nat_le n limit then Some n else None
+
+-- an integer, written without a point and an exponent, from 0 to the limit
+unfoldable pub as_integer : ℕ → Data → Option ℕ
+as_integer limit d = option_and_then (up_to limit) (option_and_then as_u64 (as_number d))
+
+-- a list of texts
+abbrev pub texts_in : Items → Option (List (List ℕ))
+texts_in no_items = Some []
+texts_in (item d ds) = option_and_then (λ t. option_map (λ ts. t ∷ ts) (texts_in ds)) (as_str d)
+
+unfoldable pub as_texts : Data → Option (List (List ℕ))
+as_texts d = option_and_then texts_in (as_array d)
+
+-- a text, or nothing for null
+abbrev pub text_or_null : Data → Option (Option (List ℕ))
+text_or_null null = Some None
+text_or_null (boolean b) = None
+text_or_null (number n) = None
+text_or_null (string s) = Some (Some s)
+text_or_null (array ds) = None
+text_or_null (object ms) = None
+
+-- texts by their names; a null stands for nothing
+abbrev pub with_entry : List ℕ → Option (List ℕ) → List Entry → List Entry
+with_entry k None es = es
+with_entry k (Some t) es = record { key = k; value = t } ∷ es
+
+abbrev pub entries_in : Members → Option (List Entry)
+entries_in no_members = Some []
+entries_in (member k d ms) = option_and_then (λ t. option_map (with_entry k t) (entries_in ms)) (text_or_null d)
+
+unfoldable pub as_text_map : Data → Option (List Entry)
+as_text_map d = option_and_then entries_in (as_object d)
+
+-- texts and nulls by the names of columns
+abbrev pub partition_in : Members → Option (List PartitionValue)
+partition_in no_members = Some []
+partition_in (member k d ms) = option_and_then (λ t. option_map (λ vs. record { column = k; value = t } ∷ vs) (partition_in ms)) (text_or_null d)
+
+unfoldable pub as_partition_map : Data → Option (List PartitionValue)
+as_partition_map d = option_and_then partition_in (as_object d)
+
+-- a value that isn't null
+abbrev pub unless_null : Data → Option Data
+unless_null null = None
+unless_null (boolean b) = Some (boolean b)
+unless_null (number n) = Some (number n)
+unless_null (string s) = Some (string s)
+unless_null (array ds) = Some (array ds)
+unless_null (object ms) = Some (object ms)
+
+-- an object, as a value
+abbrev pub as_itself : Data → Option Data
+as_itself null = None
+as_itself (boolean b) = None
+as_itself (number n) = None
+as_itself (string s) = None
+as_itself (array ds) = None
+as_itself (object ms) = Some (object ms)
+
+-- the member of this name; a null counts as absent
+unfoldable pub present : List ℕ → Data → Option Data
+present name d = option_and_then unless_null (get name d)
+
+-- what a member stands for that has to be there
+unfoldable pub needed : {A : Type 0} → (Data → Option A) → List ℕ → Data → Option A
+needed kind name d = option_and_then kind (present name d)
+
+abbrev pub if_there : {A : Type 0} → (Data → Option A) → Option Data → Option (Option A)
+if_there kind None = Some None
+if_there kind (Some d) = option_map Some (kind d)
+
+-- what a member stands for, or nothing where it is absent
+unfoldable pub optional : {A : Type 0} → (Data → Option A) → List ℕ → Data → Option (Option A)
+optional kind name d = if_there kind (present name d)

@@ -1,0 +1,10 @@
+pub mod Names
+pub mod Judging
+pub mod Fields
+pub mod Floats
+pub mod Saying
+pub mod Members
+pub mod Maps
+pub mod Backs
+pub mod Fitting
+pub mod Returning

@@ -1,0 +1,15 @@
+use Rattle.std.proofs.Common.{refl}
+use Rattle.log_actions.specs.Written.{members_of}
+use Rattle.log_actions.proofs.write.protocol_members.Goals as goal
+
+pub returns : goal.returns
+unfolding members_of
+returns c =
+    rw (
+      c.in_ok-put_optional_texts-2.ensures,
+      c.in_ok-put_optional_texts.ensures,
+      c.in_ok-put_integer-2.ensures,
+      c.in_ok-put_integer.ensures,
+      c.new-members.ensures.empty,
+    )
+    refl

@@ -1,0 +1,26 @@
+//! The actions of a table's log, as commits and checkpoints hold them: lines of JSON objects, read and written
+//! (Delta transaction log protocol, PROTOCOL.md, "Actions").
+#![tactic(auto)]
+
+mod action;
+mod commit;
+mod copy;
+mod fault;
+mod line;
+mod name;
+mod named;
+mod path;
+mod read;
+#[cfg(test)]
+mod tests;
+mod write;
+
+pub use action::{
+    Action, AddFile, CheckpointMetadata, CommitInfo, Format, MetaData, Protocol, RemoveFile,
+    Sidecar, Txn,
+};
+pub use commit::{MAX_COMMIT_BYTES, read_commit};
+pub use fault::{Feature, LogFault, LogFaultKind};
+pub use json_lines::{Entry, PartitionMap, PartitionValue, TextMap};
+pub use path::is_absolute;
+pub use write::write_commit;
