@@ -39,7 +39,10 @@ fn numbers(alloc: Global, number: u32) -> Result<Vec<u32>, Fail> {
 
 /// Runs a script by `step`; the read and the write of these numbers fail, where they aren't 0.
 fn step(alloc: Global, script: &str, read: u32, write: u32) -> Result<Output, Fail> {
-    let bytes = script.as_bytes().to_vec(alloc)?;
+    step_bytes(alloc, script.as_bytes().to_vec(alloc)?, read, write)
+}
+
+fn step_bytes(alloc: Global, bytes: Vec<u8>, read: u32, write: u32) -> Result<Output, Fail> {
     let mut source = MemSource::new(bytes, numbers(alloc, read)?);
     let mut sink = MemSink::new(alloc, numbers(alloc, write)?);
     let mut errors = MemSink::new(alloc, numbers(alloc, 0)?);
@@ -99,6 +102,90 @@ fn the_limit_of_attempts_is_kept(rt: HostRuntime) -> Result<(), Fail> {
     let output = step(rt.alloc(), script, 0, 0)?;
     let wanted = "table 1 created 0\na 1 refused 8 attempts 1\nb 1 committed 1 read 0 attempts 1\n";
     assert!(rt; output.is(0, wanted, ""));
+    Ok(())
+}
+
+/// A table of one column, session a with two inserts and session b with one, by a schedule.
+fn scheduled(alloc: Global, items: &str) -> Result<Output, Fail> {
+    let script = format!(in alloc;
+        "table (id long not null)\nsession a\ninsert (1)\ninsert (2)\nsession b\ninsert (3)\nschedule\n{items}\n"
+    )?;
+    step(alloc, &script, 0, 0)
+}
+
+/// Schedules, and the replies of a 1, a 2 and b 1 that they lead to. An insert over version v reads the clock, lists the
+/// log, gets the commits 0 to v, puts its file, reads the clock and puts its commit.
+const SCHEDULES: [(&str, &str, &str, &str); 7] = [
+    // five calls: the put of the commit is next, and is lost by the sixth
+    (
+        "a a a a a b! a",
+        "2 read 0 attempts 2",
+        "3 read 2 attempts 1",
+        "1 read 0 attempts 1",
+    ),
+    // six calls are the whole first insert
+    (
+        "a a a a a a b!",
+        "1 read 0 attempts 1",
+        "3 read 2 attempts 1",
+        "2 read 1 attempts 1",
+    ),
+    // where the put is next, going on to it makes no call
+    (
+        "a@ a@ a@ b! a!",
+        "2 read 0 attempts 2",
+        "3 read 2 attempts 1",
+        "1 read 0 attempts 1",
+    ),
+    // items of finished sessions are passed over
+    (
+        "a! a! a! a! b! b! b",
+        "1 read 0 attempts 1",
+        "2 read 1 attempts 1",
+        "3 read 2 attempts 1",
+    ),
+    // between two statements, the next one goes to its put
+    (
+        "a! a@ b! a!",
+        "1 read 0 attempts 1",
+        "3 read 1 attempts 2",
+        "2 read 1 attempts 1",
+    ),
+    // within a statement, to its end and no further
+    (
+        "a b a! b!",
+        "1 read 0 attempts 1",
+        "3 read 2 attempts 1",
+        "2 read 1 attempts 1",
+    ),
+    (
+        "a! b@ a! b!",
+        "1 read 0 attempts 1",
+        "2 read 1 attempts 1",
+        "3 read 1 attempts 2",
+    ),
+];
+
+#[test]
+fn each_item_goes_as_far_as_it_says(rt: HostRuntime) -> Result<(), Fail> {
+    let alloc = rt.alloc();
+    for (items, first, second, other) in SCHEDULES {
+        let output = scheduled(alloc, items)?;
+        let wanted = format!(in alloc;
+            "table 1 created 0\na 1 committed {first}\na 2 committed {second}\nb 1 committed {other}\n"
+        )?;
+        assert!(rt; output.is(0, &wanted, ""));
+    }
+    Ok(())
+}
+
+#[test]
+fn a_script_that_is_too_long_is_refused(rt: HostRuntime) -> Result<(), Fail> {
+    let alloc = rt.alloc();
+    let mut bytes = Vec::new(alloc);
+    bytes.resize(16_777_217, b'\n')?;
+    let output = step_bytes(alloc, bytes, 0, 0)?;
+    assert!(rt; output.is(7, "", "script longer than 16777216 bytes\n"));
     Ok(())
 }
 
