@@ -8,3 +8,5 @@ pub mod Maps
 pub mod Backs
 pub mod Fitting
 pub mod Returning
+pub mod Ordered
+pub mod Sound

@@ -68,3 +68,19 @@ ReturnsIfWhole a = IsWhole a → IfReturned (action_data a)
 abbrev pub AllReturn : List Action → Type 0
 AllReturn [] = Unit {0}
 AllReturn (a ∷ more) = ReturnsIfWhole a × AllReturn more
+
+-- nothing of the action is left out where it is written
+abbrev pub IsWritten : Action → Type 0
+IsWritten (Protocol p) = Unit {0}
+IsWritten (Meta m) = Unit {0}
+IsWritten (Add f) = Unit {0}
+IsWritten (Remove f) = Unit {0}
+IsWritten (Txn t) = t.last_updated ≡ None
+IsWritten (Info i) = Unit {0}
+IsWritten (Checkpoint c) = Unit {0}
+IsWritten (Sidecar s) = Unit {0}
+IsWritten Ignored = ⊥
+
+abbrev pub AreWritten : List Action → Type 0
+AreWritten [] = Unit {0}
+AreWritten (a ∷ more) = IsWritten a × AreWritten more

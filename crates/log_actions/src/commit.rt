@@ -4,6 +4,7 @@ ghost use Rattle.json_lines.specs.Lines.{lines};
 ghost use Rattle.log_actions.specs.Named.{Holds};
 ghost use Rattle.log_actions.specs.Commit.{actions_from, actions_of, FaultOf, IsKind};
 ghost use Rattle.log_actions.specs.Grammar.{Commit, FirstWrong};
+ghost use Rattle.log_actions.specs.Whole.{AreWhole, AreWritten};
 ghost use Rattle.log_actions.specs.declared.action.Action.{Action as ActionValue};
 
 use crate::action::Action;
@@ -93,3 +94,9 @@ pub fn read_commit(alloc: Global, bytes: &[u8]) -> Result<Vec<Action>, LogFault>
 {
     read_exactly(alloc, bytes)
 }
+
+/// What a text says is whole, but for what isn't written: so what is written of it says it again.
+pub fn commits_are_whole()
+    ensures { (bytes : List ℕ) (actions : List ActionValue) → Commit bytes actions → AreWritten actions
+        → AreWhole [] actions }
+{}

@@ -19,7 +19,7 @@ pub use action::{
     Action, AddFile, CheckpointMetadata, CommitInfo, Format, MetaData, Protocol, RemoveFile,
     Sidecar, Txn,
 };
-pub use commit::{MAX_COMMIT_BYTES, read_commit};
+pub use commit::{MAX_COMMIT_BYTES, commits_are_whole, read_commit};
 pub use fault::{Feature, LogFault, LogFaultKind};
 pub use json_lines::{Entry, PartitionMap, PartitionValue, TextMap};
 pub use path::is_absolute;
