@@ -45,11 +45,11 @@ def run(program, script, runs=RUNS):
 
 
 def big_insert(size):
-    """A script of about so many bytes: one session, inserts of a thousand rows."""
+    """A script of about so many bytes: one session, inserts of fifty thousand rows."""
     parts, length, number = [START_WORDS, "session a\n"], 0, 0
     while length < size:
-        rows = ", ".join(f"({number + k}, {(number + k) * 7919 % 1000003})" for k in range(1000))
-        number += 1000
+        rows = ", ".join(f"({number + k}, {(number + k) * 7919 % 1000003})" for k in range(50_000))
+        number += 50_000
         line = f"insert {rows}\n"
         parts.append(line)
         length += len(line)
