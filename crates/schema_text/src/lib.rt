@@ -4,6 +4,8 @@
 mod fault;
 mod number;
 mod partition;
+mod written;
 
 pub use fault::SchemaTextFault;
 pub use partition::read_partition;
+pub use written::write_partition;
