@@ -1,6 +1,7 @@
 //! The values of a file's partition columns, as they are written.
 ghost use Rattle.std.specs.Prelude.{◌≡◌, [], Ok, IfOk};
 ghost use Rattle.std.specs.List.{All};
+ghost use Rattle.row_base.specs.Schema.{IsSchema};
 ghost use Rattle.schema_text.specs.Partition.{partition_row};
 ghost use Rattle.schema_text.specs.Written as spec;
 
@@ -41,7 +42,8 @@ fn text_at(alloc: Global, row: &Row, place: usize) -> Result<Text, NoMemory>
 /// The texts of the partition columns by the columns' names.
 fn texts_of(alloc: Global, schema: &Schema, row: &Row) -> Result<BTreeMap<Text, Text>, NoMemory>
     requires { All spec.HasText row.now }
-    ensures { IfOk result (λ m. m.entries ≡ spec.texts_from schema.now.partition row.now 0 schema.now.columns []) }
+    ensures texts { IfOk result (λ m. m.entries ≡ spec.texts_from schema.now.partition row.now 0 schema.now.columns []) }
+    ensures valid { IsSchema schema.now }
 {
     let mut texts = BTreeMap::new(alloc);
     for (i, column) in schema.columns().iter().enumerate() {
@@ -77,8 +79,10 @@ pub fn write_partition(
 ) -> Result<PartitionMap, NoMemory>
     requires { All spec.HasText row.now }
     ensures values { IfOk result (λ m. m ≡ spec.partition_values schema.now row.now) }
+    ensures back { IfOk result (λ m. spec.HasValues schema.now.partition row.now 0 schema.now.columns
+        → partition_row schema.now m ≡ Ok (spec.partition_data schema.now row.now)) }
 {
-    let _columns = schema.columns();
     let texts = texts_of(alloc, schema, row)?;
-    values_of(alloc, &texts)
+    let values = values_of(alloc, &texts)?;
+    Ok(values)
 }
