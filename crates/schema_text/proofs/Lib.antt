@@ -1,2 +1,4 @@
 pub mod Decimals
-pub mod Returned
+pub mod ValuesBack
+pub mod TooMany
+pub mod SchemaBack

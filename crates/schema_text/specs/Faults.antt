@@ -1,7 +1,14 @@
 -- What a reader returned, beside what there is to read.
 use Rattle.std.specs.Prelude.{◌≡◌, Result, Ok, Err}
+use Rattle.json_lines.specs.declared.fault.ShapeFault.{ShapeFault}
+use Rattle.json_lines.specs.declared.fault.ShapeFault.TheVariants as shape
 use Rattle.schema_text.specs.declared.fault.SchemaTextFault.{SchemaTextFault}
 use Rattle.schema_text.specs.declared.fault.SchemaTextFault.TheVariants as faults
+
+-- what the fault of a JSON value is for a schema's text
+abbrev pub fault_of : ShapeFault → SchemaTextFault
+fault_of shape.Shape = faults.Shape
+fault_of shape.NoMemory = faults.NoMemory
 
 -- a fault is the one that there is. Want of memory may always come
 abbrev pub FaultOf : {X : Type 0} → SchemaTextFault → Result X SchemaTextFault → Type 0

@@ -2,6 +2,7 @@
 ghost use Rattle.std.specs.Prelude.{◌≡◌};
 ghost use Rattle.schema_text.specs.declared.fault.SchemaTextFault.TheVariants as faults;
 
+use json_lines::ShapeFault;
 use row_base::{NoMemory, Text};
 use std::alloc::{AllocError, AllocFailed};
 
@@ -41,5 +42,18 @@ impl<T: Drop> From<AllocFailed<T>> for SchemaTextFault {
 
     fn from(_refused: AllocFailed<T>) -> SchemaTextFault {
         SchemaTextFault::NoMemory
+    }
+}
+
+impl From<ShapeFault> for SchemaTextFault {
+    ghost use Rattle.schema_text.specs.Faults.{fault_of};
+
+    ghost from_gives = { λ s e. e ≡ fault_of s };
+
+    fn from(fault: ShapeFault) -> SchemaTextFault {
+        match fault {
+            ShapeFault::Shape => SchemaTextFault::Shape,
+            ShapeFault::NoMemory => SchemaTextFault::NoMemory,
+        }
     }
 }

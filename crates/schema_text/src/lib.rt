@@ -2,10 +2,15 @@
 #![tactic(auto)]
 
 mod fault;
+mod field;
 mod number;
 mod partition;
-mod written;
+mod partition_written;
+mod schema;
+mod schema_written;
 
 pub use fault::SchemaTextFault;
 pub use partition::read_partition;
-pub use written::write_partition;
+pub use partition_written::write_partition;
+pub use schema::read_schema;
+pub use schema_written::write_schema;

@@ -3,7 +3,7 @@ ghost use Rattle.std.specs.Prelude.{◌≡◌, [], Ok, IfOk};
 ghost use Rattle.std.specs.List.{All};
 ghost use Rattle.row_base.specs.Schema.{IsSchema};
 ghost use Rattle.schema_text.specs.Partition.{partition_row};
-ghost use Rattle.schema_text.specs.Written as spec;
+ghost use Rattle.schema_text.specs.PartitionWritten as spec;
 
 use json_lines::{PartitionMap, PartitionValue};
 use row_base::{Datum, NoMemory, Row, Schema, Text, write_date};
@@ -71,7 +71,7 @@ fn values_of(alloc: Global, texts: &BTreeMap<Text, Text>) -> Result<PartitionMap
 /// The values of the partition columns of a row, in byte order of the columns' names; null is the empty text, and so
 /// is a datum that the row lacks (PROTOCOL.md, "Partition Value Serialization"). What can stand in its column is read
 /// back.
-#[tactic(auto, unfolding(crate::specs::Written::partition_values))]
+#[tactic(auto, unfolding(crate::specs::PartitionWritten::partition_values))]
 pub fn write_partition(
     alloc: Global,
     schema: &Schema,

@@ -1,8 +1,8 @@
 use Rattle.std.proofs.Common.{ap, ◌∙◌}
 use Rattle.schema_text.specs.Partition.{partition_row}
-use Rattle.schema_text.specs.Written.{values_of, partition_values}
-use Rattle.schema_text.proofs.Returned.{returned}
-use Rattle.schema_text.proofs.written.write_partition.Goals as goal
+use Rattle.schema_text.specs.PartitionWritten.{values_of, partition_values}
+use Rattle.schema_text.proofs.ValuesBack.{returned}
+use Rattle.schema_text.proofs.partition_written.write_partition.Goals as goal
 
 pub returns-clause-back : goal.returns-clause-back
 unfolding partition_values

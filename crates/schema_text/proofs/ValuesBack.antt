@@ -24,7 +24,7 @@ use Rattle.row_base.proofs.DateLemmas.{read_is, text_given_back}
 use Rattle.schema_text.specs.Faults.{◌>>=◌}
 use Rattle.schema_text.specs.Numbers.{is_number, is_i64, long_in, if_i32, integer_in}
 use Rattle.schema_text.specs.Partition.{datum_of, datum_by, null_datum, filled, text_of, or_value, datum_in, cell, cells, partition_row}
-use Rattle.schema_text.specs.Written.{datum_text, datum_at, Texts, texts_from, values_of, partition_values, HasValue, HasValues, data_from, partition_data}
+use Rattle.schema_text.specs.PartitionWritten.{datum_text, datum_at, Texts, texts_from, values_of, partition_values, HasValue, HasValues, data_from, partition_data}
 use Rattle.schema_text.proofs.Decimals.{long_written}
 
 -- ---- one datum
