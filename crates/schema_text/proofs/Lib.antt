@@ -2,3 +2,4 @@ pub mod Decimals
 pub mod ValuesBack
 pub mod TooMany
 pub mod SchemaBack
+pub mod DatesRead

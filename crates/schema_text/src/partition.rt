@@ -1,7 +1,9 @@
 //! The values of a file's partition columns.
 ghost use Rattle.std.specs.Prelude.{◌≡◌, IfOk, option_map};
+ghost use Rattle.std.specs.List.{All};
 ghost use Rattle.schema_text.specs.Faults.{Reads};
 ghost use Rattle.schema_text.specs.Partition as spec;
+ghost use Rattle.schema_text.specs.PartitionWritten.{HasText};
 
 use crate::fault::SchemaTextFault;
 use crate::number::{integer_in, long_in};
@@ -154,14 +156,9 @@ fn cell(
     }
 }
 
-/// The row that the values of a file's partition columns stand for: their data, and null in each other column. The
-/// fault is that of the first column whose value has no reading (PROTOCOL.md, "Partition Value Serialization").
+/// The data of all columns.
 #[tactic(auto, unfolding(crate::specs::Partition::partition_row))]
-pub fn read_partition(
-    alloc: Global,
-    schema: &Schema,
-    values: &PartitionMap,
-) -> Result<Row, SchemaTextFault>
+fn row_of(alloc: Global, schema: &Schema, values: &PartitionMap) -> Result<Row, SchemaTextFault>
     ensures { Reads result (spec.partition_row schema.now values.now) }
 {
     let mut row = Vec::new(alloc);
@@ -169,4 +166,19 @@ pub fn read_partition(
         row.push(cell(schema, values, i as u32, column)?)?;
     }
     Ok(Row::make(row))
+}
+
+/// The row that the values of a file's partition columns stand for: their data, and null in each other column. The
+/// fault is that of the first column whose value has no reading (PROTOCOL.md, "Partition Value Serialization").
+#[tactic(auto, using(crate::proofs::DatesRead::row_has_texts))]
+pub fn read_partition(
+    alloc: Global,
+    schema: &Schema,
+    values: &PartitionMap,
+) -> Result<Row, SchemaTextFault>
+    ensures row { Reads result (spec.partition_row schema.now values.now) }
+    ensures texts { IfOk result (λ r. All HasText r) }
+{
+    let row = row_of(alloc, schema, values)?;
+    Ok(row)
 }
