@@ -18,7 +18,7 @@ use Rattle.row_base.proofs.DateLemmas.{read_is}
 use Rattle.schema_text.specs.declared.fault.SchemaTextFault.{SchemaTextFault}
 use Rattle.schema_text.specs.Faults.{◌>>=◌}
 use Rattle.schema_text.specs.Numbers.{long_in, if_i32}
-use Rattle.schema_text.specs.Partition.{datum_of, datum_by, null_datum, text_of, or_value, datum_in, cell, cells, partition_row}
+use Rattle.schema_text.specs.Partition.{datum_of, datum_by, text_of, or_value, datum_in, cell, cells, partition_row}
 use Rattle.schema_text.specs.PartitionWritten.{HasText}
 
 same_or_later : (y : ℕ) → 1 ≤ y → (y ≡ 1) ⊎ (1 < y)
@@ -42,9 +42,10 @@ in_range : (y m d : ℕ) → IsDay y m d → IsDayNumber (days_from_civil (pos y
 in_range y m d h =
     let civil : IsCivilDate (pos y) m d = (omega (arith, signed_arith, h.0.0, h.0.1), h.1, h.2) in
     let low = from_first y m d h in
-    let high = day_count-lt_year (pos y) m d (pos 10000) 1 1 civil (omega arith) (omega (arith, signed_arith)) in
-    (omega (arith, signed_arith, first_day, low, days_from_civil-day_count (pos y) m d, days_from_civil-day_count (pos 1) 1 1),
-    omega (arith, signed_arith, past_last, high, days_from_civil-day_count (pos y) m d, days_from_civil-day_count (pos 10000) 1 1))
+    let high = day_count-lt_year (pos y) m d (pos 10000) 1 1 civil (omega arith) (omega (arith, signed_arith)) in (
+      omega (arith, signed_arith, first_day, low, days_from_civil-day_count (pos y) m d, days_from_civil-day_count (pos 1) 1 1),
+      omega (arith, signed_arith, past_last, high, days_from_civil-day_count (pos y) m d, days_from_civil-day_count (pos 10000) 1 1),
+    )
 
 date_is : (text : List ℕ) (n : ℤ) → date_in text ≡ Some n → IsDayNumber n
 date_is text n e = let t = read_is text n e in subst IsDayNumber (sym t.is_number) (in_range t.year t.month t.day t.is_day)

@@ -1,6 +1,6 @@
 -- The text that is written reads as its schema.
-use Rattle.std.proofs.Common.{◌≡◌, ◌≤◌, ℕ, suc, Bool, true, false, ◌||◌, List, [], ◌∷◌, map, codes, Option, Some, None, option_map, option_and_then, Result, Ok, Err, refl, sym, ap, ◌∙◌, subst, arith}
-use Rattle.serde_json.specs.Data.{Data, object, depth, items_depth}
+use Rattle.std.proofs.Common.{◌≡◌, ◌≤◌, ℕ, false, ◌||◌, List, [], ◌∷◌, map, Some, option_and_then, Result, Ok, refl, sym, ap, ◌∙◌, subst, arith}
+use Rattle.serde_json.specs.Data.{depth, items_depth}
 use Rattle.serde_json.specs.Written.{has_float, items_have_float}
 use Rattle.json_lines.specs.Kinds.{as_itself, present, needed}
 use Rattle.json_lines.specs.Lines.{value_of_line, object_of_line}
@@ -13,7 +13,7 @@ use Rattle.schema_text.specs.declared.field.Field.{Field}
 use Rattle.schema_text.specs.declared.fault.SchemaTextFault.{SchemaTextFault}
 use Rattle.schema_text.specs.Faults.{◌>>=◌}
 use Rattle.schema_text.specs.Fields.{kind_named, field_of, fields_in, as_fields, struct_fields, fields_of_text}
-use Rattle.schema_text.specs.Schema.{column_of, or_shape, places_in, shape_of, check_types, check_invariants, schema_at, schema_by, schema_of}
+use Rattle.schema_text.specs.Schema.{column_of, or_shape, places_in, shape_of, check_types, check_invariants, schema_by, schema_of}
 use Rattle.schema_text.specs.SchemaWritten.{kind_text, field_data, fields_data, schema_data}
 
 no_floats : (cs : List Column) → items_have_float (fields_data cs) ≡ false

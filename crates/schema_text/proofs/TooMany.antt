@@ -1,12 +1,11 @@
 -- More than 64 columns make no schema.
-use Rattle.std.proofs.Common.{◌≡◌, ℕ, ◌<◌, Bool, true, false, List, length, map, Option, Some, None, Err, refl, ap, ◌∙◌, arith}
+use Rattle.std.proofs.Common.{◌≡◌, ℕ, ◌<◌, false, List, length, map, Option, Some, None, Err, refl, arith}
 use Rattle.std.proofs.lemmas.Bool.Decides.{nat_tests}
-use Rattle.row_base.specs.Schema.{is_column_count, schema_fault}
-use Rattle.row_base.specs.declared.schema.SchemaFault.TheVariants as fault
+use Rattle.row_base.specs.Schema.{is_column_count}
 use Rattle.schema_text.specs.declared.fault.SchemaTextFault.TheVariants as faults
 use Rattle.schema_text.specs.declared.field.Field.{Field}
 use Rattle.schema_text.specs.Faults.{◌>>=◌}
-use Rattle.schema_text.specs.Schema.{column_of, or_shape, shape_of, places_in, schema_at, schema_by}
+use Rattle.schema_text.specs.Schema.{column_of, or_shape, places_in, schema_at, schema_by}
 
 many : (n : ℕ) → 64 < n → is_column_count n ≡ false
 many n h = grind (arith, nat_tests)

@@ -1,5 +1,5 @@
 -- The values that are written read as the row's data.
-use Rattle.std.proofs.Common.{◌≡◌, ◌≢◌, ℕ, zero, suc, ◌+◌, ◌<◌, ◌==◌, ◌&&◌, Bool, true, false, if◌then◌else◌, List, [], ◌∷◌, map, length, get_or, codes, Option, Some, None, option_map, option_and_then, Result, Ok, Err, ℤ, refl, sym, ap, ◌∙◌, subst, arith, inl, inr, nat_le}
+use Rattle.std.proofs.Common.{◌≡◌, ◌≢◌, ℕ, suc, ◌+◌, ◌<◌, ◌==◌, ◌&&◌, Bool, true, false, if◌then◌else◌, List, [], ◌∷◌, length, get_or, codes, Option, Some, None, option_map, option_and_then, Result, Ok, ℤ, refl, sym, ap, ◌∙◌, subst, arith, nat_le}
 use Rattle.std.specs.BTreeMap.{insert_entry}
 use Rattle.std.specs.Cmp.Lexicographic.{pointwise, slice_cmp, bytes_decides}
 use Rattle.std.specs.Fmt.{signed_decimal}
@@ -18,12 +18,12 @@ use Rattle.row_base.specs.declared.row.Datum.TheVariants as datum
 use Rattle.row_base.specs.declared.row.Kind.{Kind}
 use Rattle.row_base.specs.declared.row.Kind.TheVariants as kind
 use Rattle.row_base.specs.declared.schema.Column.{Column}
-use Rattle.row_base.specs.Dates.{date_in, text_of_day}
+use Rattle.row_base.specs.Dates.{date_in}
 use Rattle.row_base.specs.Schema.{TableSchema, IsSchema, is_i32}
 use Rattle.row_base.proofs.DateLemmas.{read_is, text_given_back}
 use Rattle.schema_text.specs.Faults.{◌>>=◌}
-use Rattle.schema_text.specs.Numbers.{is_number, is_i64, long_in, if_i32, integer_in}
-use Rattle.schema_text.specs.Partition.{datum_of, datum_by, null_datum, filled, text_of, or_value, datum_in, cell, cells, partition_row}
+use Rattle.schema_text.specs.Numbers.{is_number, is_i64, long_in, if_i32}
+use Rattle.schema_text.specs.Partition.{datum_of, datum_by, null_datum, filled, text_of, or_value, datum_in, cells, partition_row}
 use Rattle.schema_text.specs.PartitionWritten.{datum_text, datum_at, Texts, texts_from, values_of, partition_values, HasValue, HasValues, data_from, partition_data}
 use Rattle.schema_text.proofs.Decimals.{long_written}
 
@@ -162,9 +162,10 @@ Apart (c ∷ cs) = Without c.name cs × Apart cs
 
 apart_from : (cs : List Column) → AllPairs (λ c d. c.name ≢ d.name) cs → Apart cs
 apart_from [] h = tt
-apart_from (c ∷ cs) h =
-    (without_from c.name cs (λ j d within is. h 0 (suc j) d (omega arith) (omega arith) (sym is)),
-    apart_from cs (λ i j d before within. h (suc i) (suc j) d (omega arith) (omega arith)))
+apart_from (c ∷ cs) h = (
+  without_from c.name cs (λ j d within is. h 0 (suc j) d (omega arith) (omega arith) (sym is)),
+  apart_from cs (λ i j d before within. h (suc i) (suc j) d (omega arith) (omega arith)),
+)
 
 passes : (b : Bool) {A : Type 0} (x y : A) → b ≡ false → (if b then x else y) ≡ y
 passes true x y e = absurd (true≢false e)

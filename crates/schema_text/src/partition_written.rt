@@ -72,11 +72,7 @@ fn values_of(alloc: Global, texts: &BTreeMap<Text, Text>) -> Result<PartitionMap
 /// is a datum that the row lacks (PROTOCOL.md, "Partition Value Serialization"). What can stand in its column is read
 /// back.
 #[tactic(auto, unfolding(crate::specs::PartitionWritten::partition_values))]
-pub fn write_partition(
-    alloc: Global,
-    schema: &Schema,
-    row: &Row,
-) -> Result<PartitionMap, NoMemory>
+pub fn write_partition(alloc: Global, schema: &Schema, row: &Row) -> Result<PartitionMap, NoMemory>
     requires { All spec.HasText row.now }
     ensures values { IfOk result (λ m. m ≡ spec.partition_values schema.now row.now) }
     ensures back { IfOk result (λ m. spec.HasValues schema.now.partition row.now 0 schema.now.columns

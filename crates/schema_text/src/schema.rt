@@ -97,11 +97,7 @@ fn schema_at(
 }
 
 #[tactic(auto, using(crate::proofs::TooMany::too_many))]
-fn schema_by(
-    alloc: Global,
-    names: &[Text],
-    fields: &[Field],
-) -> Result<Schema, SchemaTextFault>
+fn schema_by(alloc: Global, names: &[Text], fields: &[Field]) -> Result<Schema, SchemaTextFault>
     ensures { Reads result (spec.schema_by names.now fields.now) }
 {
     let columns = columns_of(alloc, fields)?;

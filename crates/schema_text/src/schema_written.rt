@@ -30,7 +30,12 @@ fn field_value(alloc: Global, column: &Column) -> Result<Value, NoMemory>
     ensures { IfOk result (λ v. view v ≡ spec.field_data column.now) }
 {
     let mut members = Map::new(alloc);
-    put(&mut members, alloc, "metadata", Value::Object(Map::new(alloc)))?;
+    put(
+        &mut members,
+        alloc,
+        "metadata",
+        Value::Object(Map::new(alloc)),
+    )?;
     put_text(alloc, &mut members, "name", &column.name)?;
     put_flag(alloc, &mut members, "nullable", column.nullable)?;
     let kind = Value::try_from_str(alloc, kind_text(column.kind))?;
@@ -54,7 +59,12 @@ fn schema_value(alloc: Global, columns: &[Column]) -> Result<Value, NoMemory>
 {
     let mut members = Map::new(alloc);
     put(&mut members, alloc, "fields", fields_value(alloc, columns)?)?;
-    put(&mut members, alloc, "type", Value::try_from_str(alloc, "struct")?)?;
+    put(
+        &mut members,
+        alloc,
+        "type",
+        Value::try_from_str(alloc, "struct")?,
+    )?;
     Ok(Value::Object(members))
 }
 

@@ -18,7 +18,11 @@ enum Outcome {
 }
 
 fn of_column(name: &Text, outcome: Outcome) -> Outcome {
-    if name.as_str() == "c" { outcome } else { Outcome::Other }
+    if name.as_str() == "c" {
+        outcome
+    } else {
+        Outcome::Other
+    }
 }
 
 fn wrong(fault: &SchemaTextFault) -> Outcome {
@@ -58,9 +62,11 @@ fn rewritten(alloc: Global, text: &str, parted: bool) -> Result<Text, NoMemory> 
 const LONG: &str =
     r#"{"fields":[{"metadata":{},"name":"id","nullable":false,"type":"long"}],"type":"struct"}"#;
 
-const FIVE: &str = r#"{"fields":[{"metadata":{},"name":"l","nullable":true,"type":"long"},{"metadata":{},"name":"i","nullable":false,"type":"integer"},{"metadata":{},"name":"b","nullable":true,"type":"boolean"},{"metadata":{},"name":"s","nullable":true,"type":"string"},{"metadata":{},"name":"p","nullable":true,"type":"date"}],"type":"struct"}"#;
+const FIVE: &str =
+    r#"{"fields":[{"metadata":{},"name":"l","nullable":true,"type":"long"},{"metadata":{},"name":"i","nullable":false,"type":"integer"},{"metadata":{},"name":"b","nullable":true,"type":"boolean"},{"metadata":{},"name":"s","nullable":true,"type":"string"},{"metadata":{},"name":"p","nullable":true,"type":"date"}],"type":"struct"}"#;
 
-const FOREIGN: &str = r#"{ "type" : "struct", "fields" : [ { "name" : "id", "type" : "long", "nullable" : false, "metadata" : { "comment" : "a key" } } ] }"#;
+const FOREIGN: &str =
+    r#"{ "type" : "struct", "fields" : [ { "name" : "id", "type" : "long", "nullable" : false, "metadata" : { "comment" : "a key" } } ] }"#;
 
 #[test]
 fn schemas_are_written_as_they_were_read(rt: HostRuntime) -> Result<(), Fail> {
@@ -75,19 +81,41 @@ fn schemas_are_written_as_they_were_read(rt: HostRuntime) -> Result<(), Fail> {
 fn foreign_schemas(rt: HostRuntime) {
     for (text, wanted) in [
         (r#"{"type":"struct","fields":[]}"#, Outcome::Shape),
-        (r#"{"type":"map","fields":[{"name":"c","type":"long","nullable":true,"metadata":{}}]}"#, Outcome::Shape),
-        (r#"{"type":"struct","fields":[{"name":"c","type":"decimal(5,2)","nullable":true,"metadata":{}}]}"#, Outcome::Kind),
-        (r#"{"type":"struct","fields":[{"name":"c","type":{"type":"array"},"nullable":true,"metadata":{}}]}"#, Outcome::Kind),
-        (r#"{"type":"struct","fields":[{"name":"c","type":7,"nullable":true,"metadata":{}}]}"#, Outcome::Shape),
-        (r#"{"type":"struct","fields":[{"name":"c","type":"long","nullable":"true","metadata":{}}]}"#, Outcome::Shape),
-        (r#"{"type":"struct","fields":[{"name":"c","type":"long","nullable":true,"metadata":[]}]}"#, Outcome::Shape),
-        (r#"{"type":"struct","fields":[{"name":"c","type":"long","nullable":true,"metadata":{"delta.invariants":"{}"}}]}"#, Outcome::Invariant),
+        (
+            r#"{"type":"map","fields":[{"name":"c","type":"long","nullable":true,"metadata":{}}]}"#,
+            Outcome::Shape,
+        ),
+        (
+            r#"{"type":"struct","fields":[{"name":"c","type":"decimal(5,2)","nullable":true,"metadata":{}}]}"#,
+            Outcome::Kind,
+        ),
+        (
+            r#"{"type":"struct","fields":[{"name":"c","type":{"type":"array"},"nullable":true,"metadata":{}}]}"#,
+            Outcome::Kind,
+        ),
+        (
+            r#"{"type":"struct","fields":[{"name":"c","type":7,"nullable":true,"metadata":{}}]}"#,
+            Outcome::Shape,
+        ),
+        (
+            r#"{"type":"struct","fields":[{"name":"c","type":"long","nullable":"true","metadata":{}}]}"#,
+            Outcome::Shape,
+        ),
+        (
+            r#"{"type":"struct","fields":[{"name":"c","type":"long","nullable":true,"metadata":[]}]}"#,
+            Outcome::Shape,
+        ),
+        (
+            r#"{"type":"struct","fields":[{"name":"c","type":"long","nullable":true,"metadata":{"delta.invariants":"{}"}}]}"#,
+            Outcome::Invariant,
+        ),
     ] {
         assert!(rt; ending(rt.alloc(), text, false) == wanted);
     }
 }
 
-const PARTED: &str = r#"{"type":"struct","fields":[{"name":"c","type":"integer","nullable":false,"metadata":{}},{"name":"v","type":"long","nullable":true,"metadata":{}}]}"#;
+const PARTED: &str =
+    r#"{"type":"struct","fields":[{"name":"c","type":"integer","nullable":false,"metadata":{}},{"name":"v","type":"long","nullable":true,"metadata":{}}]}"#;
 
 fn map_of(alloc: Global, column: &str, text: &str) -> Result<PartitionMap, NoMemory> {
     let mut values = Vec::new(alloc);
@@ -139,7 +167,12 @@ fn value_rewritten(alloc: Global, text: &str) -> Result<Text, SchemaTextFault> {
     let row = read_partition(alloc, &schema, &map_of(alloc, "c", text)?)?;
     let written = write_partition(alloc, &schema, &row)?;
     match written.as_slice() {
-        [PartitionValue { value: Some(text), .. }] => Ok(text.copy()?),
+        [
+            PartitionValue {
+                value: Some(text),
+                ..
+            },
+        ] => Ok(text.copy()?),
         _ => Ok(Text::make(alloc, "none")?),
     }
 }
