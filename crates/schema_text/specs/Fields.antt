@@ -1,0 +1,58 @@
+-- The fields of a schema's text (PROTOCOL.md, "Schema Serialization Format").
+use Rattle.std.specs.Prelude.{ℕ, Bool, if◌then◌else◌, List, [], ◌∷◌, codes, Option, Some, None, option_map, option_and_then, is_some}
+use Rattle.std.specs.Str.{bytes_eq}
+use Rattle.serde_json.specs.Data.{Data, null, boolean, number, string, array, object, Items, no_items, item}
+use Rattle.serde_json.specs.Find.{as_str, as_bool, as_array}
+use Rattle.json_lines.specs.Gives.{◌>>=◌}
+use Rattle.json_lines.specs.Kinds.{as_itself, present, needed}
+use Rattle.json_lines.specs.Lines.{object_of_line}
+use Rattle.row_base.specs.declared.row.Kind.{Kind}
+use Rattle.row_base.specs.declared.row.Kind.TheVariants as kind
+use Rattle.schema_text.specs.declared.field.Field.{Field}
+
+-- the kind of a primitive type that is supported
+unfoldable pub kind_named : List ℕ → Option Kind
+kind_named name =
+    if bytes_eq name (codes "long") then Some kind.Long
+    else (if bytes_eq name (codes "integer") then Some kind.Integer
+    else (if bytes_eq name (codes "boolean") then Some kind.Boolean
+    else (if bytes_eq name (codes "string") then Some kind.String
+    else (if bytes_eq name (codes "date") then Some kind.Date else None))))
+
+-- a type is a text or an object; that of an object is nested, and isn't supported
+abbrev pub type_in : Data → Option (Option Kind)
+type_in null = None
+type_in (boolean b) = None
+type_in (number n) = None
+type_in (string name) = Some (kind_named name)
+type_in (array ds) = None
+type_in (object ms) = Some None
+
+-- metadata is an object, which may have an invariant (PROTOCOL.md, "Column Invariants")
+abbrev pub invariant_in : Data → Option Bool
+invariant_in d = option_map (λ m. is_some (present (codes "delta.invariants") m)) (as_itself d)
+
+unfoldable pub field_of : Data → Option Field
+field_of d =
+    needed as_str (codes "name") d >>= λ name.
+    needed type_in (codes "type") d >>= λ type.
+    needed as_bool (codes "nullable") d >>= λ nullable.
+    needed invariant_in (codes "metadata") d >>= λ invariant.
+    Some (record { name = name; kind = type; nullable = nullable; has_invariant = invariant })
+
+abbrev pub fields_in : Items → Option (List Field)
+fields_in no_items = Some []
+fields_in (item d ds) = option_and_then (λ f. option_map (λ fs. f ∷ fs) (fields_in ds)) (field_of d)
+
+unfoldable pub as_fields : Data → Option (List Field)
+as_fields d = option_and_then fields_in (as_array d)
+
+-- the fields of a struct type
+unfoldable pub struct_fields : Data → Option (List Field)
+struct_fields d =
+    needed as_str (codes "type") d >>= λ type.
+    if bytes_eq type (codes "struct") then needed as_fields (codes "fields") d else None
+
+-- the fields of the struct type that a text is
+unfoldable pub fields_of_text : List ℕ → Option (List Field)
+fields_of_text text = object_of_line text >>= struct_fields

@@ -1,0 +1,7 @@
+pub mod Faults
+pub mod Fields
+pub mod Numbers
+pub mod Partition
+pub mod PartitionWritten
+pub mod Schema
+pub mod SchemaWritten
