@@ -3,4 +3,5 @@ pub mod FirstAfter
 pub mod SchemaLemmas
 pub mod RowLemmas
 pub mod DateLemmas
+pub mod DateRange
 pub mod Bags
