@@ -2,8 +2,8 @@
 ghost use Rattle.std.specs.Prelude.{◌≡◌, IfOk};
 
 use crate::action::{
-    Action, AddFile, CheckpointMetadata, CommitInfo, Format, MetaData, Protocol, RemoveFile, Sidecar,
-    Txn,
+    Action, AddFile, CheckpointMetadata, CommitInfo, Format, MetaData, Protocol, RemoveFile,
+    Sidecar, Txn,
 };
 use json_lines::{PartitionMap, TextMap, copy_text};
 use row_base::{NoMemory, Texts};

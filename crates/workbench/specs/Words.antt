@@ -6,7 +6,7 @@ use Rattle.std.specs.Char.{is_ascii_digit}
 use Rattle.std.specs.Str.{bytes_eq}
 use Rattle.std.specs.Str.Parse.{digits_value}
 use Rattle.workbench.specs.declared.words.Kernel.{Kernel}
-use Rattle.workbench.specs.declared.words.Kernel.TheVariants.{Unpack, Pack}
+use Rattle.workbench.specs.declared.words.Kernel.TheVariants.{Unpack, Pack, LogWrite, LogRead}
 use Rattle.workbench.specs.declared.words.Format.{Format}
 use Rattle.workbench.specs.declared.words.Format.TheVariants.{Hybrid, Thrift}
 use Rattle.workbench.specs.declared.words.Command.{Command}
@@ -39,8 +39,12 @@ unpack_or None (Some width) = Some (Pack width)
 unpack_or None None = None
 
 -- `unpack-W` and `pack-W` name the kernels of the width W
+abbrev pub packing_of : List ℕ → Option Kernel
+packing_of name = unpack_or (option_and_then width_of (after (codes "unpack-") name)) (option_and_then width_of (after (codes "pack-") name))
+
+-- and `log-write` and `log-read` those of commits
 abbrev pub kernel_of : List ℕ → Option Kernel
-kernel_of name = unpack_or (option_and_then width_of (after (codes "unpack-") name)) (option_and_then width_of (after (codes "pack-") name))
+kernel_of name = if bytes_eq name (codes "log-write") then Some LogWrite else if bytes_eq name (codes "log-read") then Some LogRead else packing_of name
 
 -- `hybrid` and `thrift` name the formats
 abbrev pub format_of : List ℕ → Option Format

@@ -1,23 +1,27 @@
 //! The workbench of the formats.
 //!
 //! `time KERNEL N` runs a kernel N times over data that it makes, and prints a checksum alone. The kernels are
-//! `unpack-W` and `pack-W` for a width W from 0 to 32. `read FORMAT FILE` prints what a file reads as, or its fault; the
-//! formats are `hybrid` (one byte of width, four bytes of count, lowest first, and then the hybrid) and `thrift` (a
-//! struct).
+//! `unpack-W` and `pack-W` for a width W from 0 to 32. `time log-write N` writes a commit of N added files with
+//! statistics, and prints the number of its bytes; `time log-read N` does so, reads it, and prints the number of its
+//! actions. `read FORMAT FILE` prints what a file reads as, or its fault; the formats are `hybrid` (one byte of width,
+//! four bytes of count, lowest first, and then the hybrid) and `thrift` (a struct).
 //!
 //! Where the words aren't accepted the status is 2, where the file can't be read or another call fails it is 1, and a
 //! line on standard error says why.
 #![tactic(auto)]
 
+mod commits;
 mod kernels;
 mod reading;
+#[cfg(test)]
+mod tests;
 mod words;
 
 ghost use Rattle.std.specs.Prelude.{◌≡◌};
 ghost use Rattle.workbench.specs.Status.{status_of};
 
+use crate::kernels::KernelFault;
 use crate::words::{Command, WordsFault, command_of};
-use bit_pack::PackFault;
 use std::alloc::{AllocError, AllocFailed};
 use std::process::ExitCode;
 use std::{env, fs, io};
@@ -29,7 +33,7 @@ enum Failed {
     #[error("{0}")]
     Words(WordsFault),
     #[error("the kernel failed: {0}")]
-    Kernel(PackFault),
+    Kernel(KernelFault),
     #[error("the file can't be read: {0}")]
     File(io::Error),
     #[error("the answer can't be printed: {0}")]
@@ -72,9 +76,9 @@ fn obey(rt: &HostRuntime) -> Result<(), Failed> {
     };
     let command = command_of(word.as_str(), name.as_str(), last.as_str()).map_err(Failed::Words)?;
     match command {
-        Command::Time(kernel, runs) => {
-            let sum = kernels::run(alloc, kernel, runs).map_err(Failed::Kernel)?;
-            println!(rt; "{sum}").map_err(Failed::Print)
+        Command::Time(kernel, number) => {
+            let answer = kernels::run(alloc, kernel, number).map_err(Failed::Kernel)?;
+            println!(rt; "{answer}").map_err(Failed::Print)
         }
         Command::Read(format) => {
             let bytes = fs::read(rt, last.as_str()).map_err(Failed::File)?;

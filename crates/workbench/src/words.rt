@@ -12,13 +12,17 @@ use thiserror::Error;
 /// The widest values, in bits.
 const MOST_BITS: u32 = 32;
 
-/// A kernel that is timed, for values of so many bits.
+/// What is timed.
 #[derive(Clone, Copy, Debug, Drop, PartialEq, Eq)]
 pub enum Kernel {
-    /// `unpack-W`
+    /// `unpack-W`: the unpacking of values of so many bits.
     Unpack(u8),
-    /// `pack-W`
+    /// `pack-W`: their packing.
     Pack(u8),
+    /// `log-write`: the writing of a commit.
+    LogWrite,
+    /// `log-read`: its writing and reading.
+    LogRead,
 }
 
 /// What a file is to be read as.
@@ -33,7 +37,7 @@ pub enum Format {
 /// What the program is asked to do.
 #[derive(Clone, Copy, Debug, Drop, PartialEq, Eq)]
 pub enum Command {
-    /// To run a kernel so many times.
+    /// To run a kernel so many times, or over a commit of so many added files.
     Time(Kernel, u32),
     /// To read a file.
     Read(Format),
@@ -49,10 +53,10 @@ pub enum WordsFault {
     #[error("unknown command: use time or read")]
     Command,
     /// No kernel has this name.
-    #[error("unknown kernel: use unpack-W or pack-W, with a width W from 0 to 32")]
+    #[error("unknown kernel: use unpack-W or pack-W, with a width W from 0 to 32, log-write or log-read")]
     Kernel,
-    /// No number of runs in decimal digits, or one of more than 32 bits.
-    #[error("the number of runs is no number from 0 to 4294967295")]
+    /// No number of runs or of added files in decimal digits, or one of more than 32 bits.
+    #[error("the last word is no number from 0 to 4294967295")]
     Runs,
     /// No format has this name.
     #[error("unknown format: use hybrid or thrift")]
@@ -86,7 +90,17 @@ fn time_command(kernel: Option<Kernel>, runs: Option<u32>) -> Result<Command, Wo
 fn kernel_of(name: &str) -> Option<Kernel>
     ensures { result ≡ spec.kernel_of name.now }
 {
-    let name = name.as_bytes();
+    match name {
+        "log-write" => Some(Kernel::LogWrite),
+        "log-read" => Some(Kernel::LogRead),
+        _ => packing_of(name.as_bytes()),
+    }
+}
+
+/// The kernel of a name with a width.
+fn packing_of(name: &[u8]) -> Option<Kernel>
+    ensures { result ≡ spec.packing_of name.now }
+{
     if let Some(width) = width_after(b"unpack-", name) {
         return Some(Kernel::Unpack(width));
     }
