@@ -1,0 +1,16 @@
+//! The metadata of Parquet files: the footer and the heads of pages, read and written (Parquet format, "Metadata";
+//! Thrift compact protocol).
+#![tactic(auto)]
+
+mod fault;
+mod file;
+mod head;
+mod items;
+mod known;
+mod meta;
+
+pub use fault::FileFault;
+pub use file::{read_footer, read_page_head, write_footer, write_page_head};
+pub use head::{DataPageHead, DictionaryPageHead, PageAt, PageHead};
+pub use items::Items;
+pub use meta::{ColumnChunk, ColumnMetaData, FileMeta, RowGroup, SchemaElement};
