@@ -10,7 +10,9 @@ mod head;
 mod items;
 mod known;
 mod meta;
+mod page;
 mod reader;
+mod written;
 
 pub use fault::FileFault;
 pub use file::{read_footer, read_page_head, write_footer, write_page_head};
