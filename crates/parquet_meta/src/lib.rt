@@ -19,3 +19,6 @@ pub use file::{read_footer, read_page_head, write_footer, write_page_head};
 pub use head::{DataPageHead, DictionaryPageHead, PageAt, PageHead};
 pub use items::Items;
 pub use meta::{ColumnChunk, ColumnMetaData, FileMeta, RowGroup, SchemaElement};
+
+#[cfg(test)]
+mod tests;
