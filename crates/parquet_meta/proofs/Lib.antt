@@ -3,3 +3,6 @@ pub mod Bounds
 pub mod Moved
 pub mod Loops
 pub mod Puts
+pub mod Exact
+pub mod ExactFooter
+pub mod ExactHeads
