@@ -6,3 +6,5 @@ pub mod Puts
 pub mod Exact
 pub mod ExactFooter
 pub mod ExactHeads
+pub mod ExactFile
+pub mod SpelledWritten
