@@ -1,0 +1,9 @@
+pub mod Faults
+pub mod Pieces
+pub mod Values
+pub mod Structs
+pub mod Footer
+pub mod Heads
+pub mod Written
+pub mod Grammar
+pub mod Laws
