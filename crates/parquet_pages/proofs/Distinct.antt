@@ -1,17 +1,18 @@
 -- Places of values among distinct ones.
 use Rattle.std.proofs.Common.{◌≡◌, ℕ, zero, suc, ◌+◌, ◌*◌, ◌^◌, ◌<◌, ◌≤◌, Bool, true, false, ◌||◌, not, drop, cond, leb, List, [], ◌∷◌, ◌++◌, length, get_or, refl, sym, ap, subst, ◌∙◌, arith, inl, inr, Option, Some, None, option_map, is_some, unwrap_or}
 use Rattle.std.proofs.lemmas.Bool.{cases_Bool, le-leb, lt-leb, leb-true, or_from, false_from_ne_true, not-true}
-use Rattle.std.proofs.lemmas.List.{length-append, at_drop_more}
+use Rattle.std.proofs.lemmas.List.{length-append, at_drop_more, drop_all, append-nil}
 use Rattle.std.specs.declared.cmp.Ordering.{Ordering}
 use Rattle.std.specs.declared.cmp.Ordering.TheVariants.{Less, Equal, Greater}
 use Rattle.std.specs.Cmp.{Equal-is}
+use Rattle.std.specs.List.{All}
 use Rattle.std.specs.Ordering.{is_eq}
 use Rattle.bit_pack.specs.Bits.{most_values}
 use Rattle.row_base.specs.declared.row.Datum.{Datum}
 use Rattle.row_base.specs.RowOrder.{datum_cmp}
 use Rattle.row_base.proofs.RowOrder.{datum_apart}
 use Rattle.parquet_pages.proofs.Chains.{map_some}
-use Rattle.parquet_pages.specs.Places.{is_null, present, place_of, place_in, IsIndexed, with_value, distinct_after}
+use Rattle.parquet_pages.specs.Places.{is_null, present, place_of, place_in, IsIndexed, with_value, distinct_after, places_of, can_place}
 
 -- equal by the order is equal
 pub same_datum : (v q : Datum) → is_eq (datum_cmp v q) ≡ true → v ≡ q
@@ -117,3 +118,40 @@ indexed_added found after old new v key last place indexed room none same_key sa
     subst (λ vs. IsIndexed vs new) (sym push) (indexed_push found old new v indexed room none
       (λ q. put q ∙ ap (λ d. cond (is_eq (datum_cmp d q)) (Some place) (place_in old q)) same_key
         ∙ ap (λ n. cond (is_eq (datum_cmp v q)) (Some n) (place_in old q)) here))
+
+-- ---- places of values
+
+few_more : (b : Bool) (places : List ℕ) (p n : ℕ) → length places ≤ n → length (cond b places (p ∷ places)) ≤ suc n
+few_more true places p n le = omega arith
+few_more false places p n le = omega arith
+
+pub places_few : (dictionary vs : List Datum) → length (places_of dictionary vs) ≤ length vs
+places_few dictionary [] = omega arith
+places_few dictionary (v ∷ vs) = few_more (is_null v) (places_of dictionary vs) (unwrap_or (place_of dictionary v) 0) (length vs) (places_few dictionary vs)
+
+-- each place is below a number
+abbrev pub AllBelow : ℕ → List ℕ → Type 0
+AllBelow n places = (k : ℕ) → k < length places → get_or places k 0 < n
+
+below_first : (n p : ℕ) (places : List ℕ) → p < n → AllBelow n places → AllBelow n (p ∷ places)
+below_first n p places lt rest zero k = lt
+below_first n p places lt rest (suc i) k = rest i (omega (arith, k))
+
+below_more : (b : Bool) (o : Option ℕ) (optional : Bool) (n : ℕ) (places : List ℕ) → cond b optional (is_some o) ≡ true
+    → ((p : ℕ) → o ≡ Some p → p < n) → AllBelow n places → AllBelow n (cond b places (unwrap_or o 0 ∷ places))
+below_more true o optional n places test within rest = rest
+below_more false None optional n places test within rest = absurd cc
+below_more false (Some p) optional n places test within rest = below_first n p places (within p refl) rest
+
+pub places_within : (dictionary : List Datum) (optional : Bool) (vs : List Datum) → All (λ v. can_place dictionary optional v ≡ true) vs
+    → AllBelow (length dictionary) (places_of dictionary vs)
+places_within dictionary optional [] all k lt = absurd (omega (arith, lt))
+places_within dictionary optional (v ∷ vs) all k lt =
+    below_more (is_null v) (place_of dictionary v) optional (length dictionary) (places_of dictionary vs) (all 0 v (omega arith))
+    (λ p e. place_of-lt dictionary v p e) (places_within dictionary optional vs (λ i d le. all (suc i) d (omega (arith, le)))) k lt
+
+-- behind the last value no place is left
+pub all_found : (dictionary values : List Datum) (found : List ℕ) (i : ℕ) → found ++ places_of dictionary (drop i values) ≡ places_of dictionary values
+    → length values ≤ i → found ≡ places_of dictionary values
+all_found dictionary values found i so_far end =
+    sym (append-nil found) ∙ ap (λ (vs : List Datum). found ++ places_of dictionary vs) (sym (drop_all i values end)) ∙ so_far
