@@ -8,3 +8,5 @@ pub mod DatumOrder
 pub mod Distinct
 pub mod Widths
 pub mod PackedBytes
+pub mod PlainRead
+pub mod PagesRead
