@@ -10,3 +10,6 @@ pub mod Widths
 pub mod PackedBytes
 pub mod PlainRead
 pub mod PagesRead
+pub mod Kept
+pub mod PlainBack
+pub mod Returning
