@@ -13,3 +13,4 @@ pub mod PagesRead
 pub mod Kept
 pub mod PlainBack
 pub mod Returning
+pub mod FirstPlaces

@@ -1,6 +1,6 @@
 -- What pages are: their bytes and values as a relation, in the words of the Parquet format (README.md, "Data Pages",
 -- "Nulls"; Encodings.md, "Plain", "Run Length Encoding / Bit-Packing Hybrid", "Dictionary Encoding").
-use Rattle.std.specs.Prelude.{◌≡◌, ◌⊎◌, ◌↔◌, ℕ, ◌+◌, ◌≤◌, ℤ, pos, Bool, true, false, List, [], ◌∷◌, ◌++◌, length, take, drop, map, Option, Some, Ok, IsUtf8}
+use Rattle.std.specs.Prelude.{◌≡◌, ◌⊎◌, ◌↔◌, ℕ, ◌+◌, ◌*◌, ◌<◌, ◌≤◌, is_some, slice_get, ℤ, pos, Bool, true, false, List, [], ◌∷◌, ◌++◌, length, take, drop, map, Option, Some, None, Ok, IsUtf8}
 use Rattle.std.specs.Int.{w32, from_le_bytes}
 use Rattle.bit_pack.specs.Bits.{Packed, most_values}
 use Rattle.bit_pack.specs.Hybrid as hybrid
@@ -14,7 +14,7 @@ use Rattle.parquet_meta.specs.declared.head.DictionaryPageHead.{DictionaryPageHe
 use Rattle.parquet_meta.specs.declared.head.PageAt.{PageAt}
 use Rattle.parquet_pages.specs.Plain.{long_of, integer_of, boolean_of}
 use Rattle.parquet_pages.specs.Levels.{there, spread}
-use Rattle.parquet_pages.specs.Places.{values_at}
+use Rattle.parquet_pages.specs.Places.{is_null, present, place_of, is_boolean, dictionary_of, values_at}
 use Rattle.parquet_pages.specs.Pages.{page_values, dictionary_values}
 
 -- bytes of UTF-8, at most 65,535 of them
@@ -120,3 +120,26 @@ PagesAreRead = (k : Kind) (optional : Bool) (page : PageAt) (file : List ℕ) (d
 abbrev pub DictionariesAreRead : Type 0
 DictionariesAreRead = (k : Kind) (page : PageAt) (file : List ℕ) (vs : List Datum)
     → (dictionary_values k page file ≡ Ok vs) ↔ DictionaryPage k page file vs
+
+-- a value is among these
+abbrev pub Has : List Datum → Datum → Type 0
+Has vs v = is_some (place_of vs v) ≡ true
+
+-- the dictionary of values: each of them that isn't null, and no other, once, in order of first appearance
+pub record IsDictionaryOf (vs dictionary : List Datum) : Type 0 where
+  pub all : (v : Datum) → is_null v ≡ false → Has vs v → Has dictionary v
+  pub only : (v : Datum) → Has dictionary v → (is_null v ≡ false) × Has vs v
+  pub once : (i : ℕ) (v : Datum) → slice_get dictionary i ≡ Some v → place_of dictionary v ≡ Some i
+  pub order : (a b : Datum) (i j m n : ℕ) → place_of dictionary a ≡ Some i → place_of dictionary b ≡ Some j → place_of vs a ≡ Some m → place_of vs b ≡ Some n
+      → i < j → m < n
+
+-- a chunk has a dictionary where it isn't boolean and twice the number of its distinct values is at most the number of its
+-- values that aren't null
+abbrev pub DictionariesPay : Type 0
+DictionariesPay = (k : Kind) (vs dictionary : List Datum) → dictionary_of k vs ≡ Some dictionary
+    → (is_boolean k ≡ false) × IsDictionaryOf vs dictionary × (2 * length dictionary ≤ present vs)
+
+-- and else it has none
+abbrev pub OthersDoNotPay : Type 0
+OthersDoNotPay = (k : Kind) (vs : List Datum) → dictionary_of k vs ≡ None
+    → (is_boolean k ≡ true) ⊎ ((dictionary : List Datum) × IsDictionaryOf vs dictionary × (present vs < 2 * length dictionary))
