@@ -15,7 +15,7 @@ use Rattle.parquet_pages.specs.Grammar.{Has, IsDictionaryOf}
 use Rattle.parquet_pages.proofs.Chains.{inside, test_some}
 use Rattle.parquet_pages.proofs.Distinct.{same_datum, place_of-push, last_place, or_last, place_of-lt}
 
-itself : (v : Datum) → is_eq (datum_cmp v v) ≡ true
+pub itself : (v : Datum) → is_eq (datum_cmp v v) ≡ true
 itself v = (Equal-is (datum_cmp v v)).1 (tied_itself datum_cmp_total v)
 
 -- a place is there, or it isn't
@@ -26,7 +26,7 @@ place_cases None = inr refl
 has_from : (vs : List Datum) (q : Datum) (k : ℕ) → place_of vs q ≡ Some k → Has vs q
 has_from vs q k e = ap is_some e
 
-has_place : (vs : List Datum) (q : Datum) → Has vs q → (k : ℕ) × (place_of vs q ≡ Some k)
+pub has_place : (vs : List Datum) (q : Datum) → Has vs q → (k : ℕ) × (place_of vs q ≡ Some k)
 has_place vs q h = by_place (place_of vs q) h
   where
     by_place : (o : Option ℕ) → is_some o ≡ true → (k : ℕ) × (o ≡ Some k)

@@ -14,3 +14,4 @@ pub mod Kept
 pub mod PlainBack
 pub mod Returning
 pub mod FirstPlaces
+pub mod DictionaryFits
