@@ -66,11 +66,7 @@ fn place_in(places: &BTreeMap<Datum, u32>, value: &Datum) -> Option<u32>
 }
 
 /// Gives a value that has none a place.
-fn put_place(
-    places: &mut BTreeMap<Datum, u32>,
-    value: Datum,
-    place: u32,
-) -> Result<(), NoMemory>
+fn put_place(places: &mut BTreeMap<Datum, u32>, value: Datum, place: u32) -> Result<(), NoMemory>
     ensures { OnOk result ((q : ADatum) → spec.place_in places.new.entries q
         ≡ (if is_eq (datum_cmp value q) then Some place else spec.place_in places.old.entries q)) }
 {
@@ -103,11 +99,7 @@ fn add(
 }
 
 /// The distinct values that aren't null, with their places, where there are at most so many of them.
-fn distinct(
-    alloc: Global,
-    values: &[Datum],
-    most: usize,
-) -> Result<Option<Dictionary>, NoMemory>
+fn distinct(alloc: Global, values: &[Datum], most: usize) -> Result<Option<Dictionary>, NoMemory>
     requires { most ≤ most_values }
     ensures { IfOk result (λ d. d ≡ (if nat_le (length (spec.distinct_after [] values.now)) most
         then Some (spec.distinct_after [] values.now) else None)) }
@@ -210,11 +202,7 @@ impl Dictionary {
     /// The dictionary of a chunk's values: the distinct ones that aren't null, in order of first appearance. `None`
     /// where the kind is `Boolean`, or twice the number of distinct values exceeds the number of values that aren't
     /// null.
-    pub fn of(
-        alloc: Global,
-        kind: Kind,
-        values: &[Datum],
-    ) -> Result<Option<Dictionary>, NoMemory>
+    pub fn of(alloc: Global, kind: Kind, values: &[Datum]) -> Result<Option<Dictionary>, NoMemory>
         requires few { length values.now ≤ most_values }
         requires stand { All (written.CanStand kind true) values.now }
         ensures dictionary { IfOk result (λ d. d ≡ spec.dictionary_of kind values.now) }
@@ -254,7 +242,13 @@ impl Dictionary {
         requires placed { All (λ v. spec.can_place self.now optional v ≡ true) values.now }
         ensures { IfOk result (λ v. v.items ≡ index_text optional self.now values.now) }
     {
-        let places = places_of(alloc, self.values.as_slice(), &self.places, optional, values)?;
+        let places = places_of(
+            alloc,
+            self.values.as_slice(),
+            &self.places,
+            optional,
+            values,
+        )?;
         let mut out = Vec::new(alloc);
         append_levels(alloc, optional, values, &mut out)?;
         append_places(alloc, self.values.len(), places.as_slice(), &mut out)?;
