@@ -15,3 +15,4 @@ pub mod PlainBack
 pub mod Returning
 pub mod FirstPlaces
 pub mod DictionaryFits
+pub mod NullsFound

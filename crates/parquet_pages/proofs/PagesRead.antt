@@ -182,7 +182,7 @@ bind_ok : {A B : Type 0} (r : Result A FileFault) (f : A → Result B FileFault)
 bind_ok (Ok x) f y e = (x, refl, e)
 bind_ok (Err d) f y e = absurd cc
 
-bind_from : {A B : Type 0} (r : Result A FileFault) (f : A → Result B FileFault) (x : A) → r ≡ Ok x → (r >>= f) ≡ f x
+pub bind_from : {A B : Type 0} (r : Result A FileFault) (f : A → Result B FileFault) (x : A) → r ≡ Ok x → (r >>= f) ≡ f x
 bind_from r f x e = rw e refl
 
 ok_inside : {A : Type 0} (x y : A) → ◌≡◌ {A = Result A FileFault} (Ok x) (Ok y) → x ≡ y
@@ -192,7 +192,7 @@ page_ok : {A : Type 0} (at : ℕ) (o : Option A) (x : A) → or_page at o ≡ Ok
 page_ok at (Some y) x e = ap Some (ok_inside y x e)
 page_ok at None x e = absurd cc
 
-page_from : {A : Type 0} (at : ℕ) (o : Option A) (x : A) → o ≡ Some x → or_page at o ≡ Ok x
+pub page_from : {A : Type 0} (at : ℕ) (o : Option A) (x : A) → o ≡ Some x → or_page at o ≡ Ok x
 page_from at o x e = ap (or_page at) e
 
 guard_ok : {A : Type 0} (b : Bool) (d : FileFault) (r : Result A FileFault) (y : A) → cond b (Err d) r ≡ Ok y → (b ≡ false) × (r ≡ Ok y)
@@ -204,7 +204,7 @@ holds_ok true r d y e = (refl, e)
 holds_ok false r d y e = absurd cc
 
 -- the encodings that a head may name
-abbrev Named : Bool → DataPageHead → Type 0
+abbrev pub Named : Bool → DataPageHead → Type 0
 Named o head = (is_plain head.encoding || is_dictionary head.encoding ≡ true) × (o ≡ true → is_hybrid head.definition_level_encoding ≡ true)
 
 levels_looked : (o b : Bool) → o && not b ≡ false → o ≡ true → b ≡ true
@@ -285,7 +285,7 @@ present_named : {k : Kind} {e : ℤ} {d : Option (List Datum)} {count : ℕ} {by
 present_named {e = e} (plain zero_is all values) = or_left (is_plain e) (is_dictionary e) (number_same e (pos 0) zero_is)
 present_named {e = e} (indexed known named given values) = or_right (is_plain e) (is_dictionary e) (dictionary_is e named)
 
-body_named : {k : Kind} {e : ℤ} {d : Option (List Datum)} {count : ℕ} {bytes : List ℕ} {vs : List Datum} {o : Bool} → Body k e d count bytes vs o → is_plain e || is_dictionary e ≡ true
+pub body_named : {k : Kind} {e : ℤ} {d : Option (List Datum)} {count : ℕ} {bytes : List ℕ} {vs : List Datum} {o : Bool} → Body k e d count bytes vs o → is_plain e || is_dictionary e ≡ true
 body_named (required present) = present_named present
 body_named (optional levels rest values l present placed) = present_named present
 

@@ -1,5 +1,5 @@
 //! Facts about pages alone, which no code computes.
-ghost use Rattle.parquet_pages.specs.Grammar.{PagesAreRead, DictionariesAreRead, DictionariesPay, OthersDoNotPay, DictionariesFit};
+ghost use Rattle.parquet_pages.specs.Grammar.{PagesAreRead, DictionariesAreRead, DictionariesPay, OthersDoNotPay, DictionariesFit, NullsAreFound};
 ghost use Rattle.parquet_pages.specs.ReadBack.{PagesReadBack, IndicesReadBack, DictionariesReadBack};
 
 /// What `read_page` and `read_dictionary` read as values is exactly what the format says of a page of these values.
@@ -23,4 +23,9 @@ pub fn dictionaries_pay()
     ensures some { DictionariesPay }
     ensures none { OthersDoNotPay }
     ensures fit { DictionariesFit }
+{}
+
+/// Where `read_page` reads values, `page_has_null` tells whether null is among them.
+pub fn nulls_are_found()
+    ensures { NullsAreFound }
 {}
