@@ -1,6 +1,6 @@
 //! Dictionaries of chunks (Parquet format, Encodings.md, "Dictionary Encoding (PLAIN_DICTIONARY = 2 and RLE_DICTIONARY =
 //! 8)").
-ghost use Rattle.std.specs.Prelude.{false, ◌≡◌, ◌^◌, ◌<◌, ◌≤◌, ◌+◌, ◌++◌, ◌∷◌, [], ℕ, true, length, slice_index, EachIndex, if◌then◌else◌, not, ◌||◌, nat_le, is_some, vec_len, Some, None, Bool, IfSome, IfOk, OnOk};
+ghost use Rattle.std.specs.Prelude.{false, ◌≡◌, ◌==◌, ◌^◌, ◌<◌, ◌≤◌, ◌+◌, ◌++◌, ◌∷◌, [], ℕ, true, length, slice_index, EachIndex, if◌then◌else◌, not, ◌||◌, nat_le, is_some, vec_len, Some, None, Bool, IfSome, IfOk, OnOk};
 ghost use Rattle.std.specs.List.{All};
 ghost use Rattle.std.specs.Ordering.{is_eq};
 ghost use Rattle.bit_pack.specs.Bits.{most_values};
@@ -20,7 +20,7 @@ use std::collections::BTreeMap;
 use std::marker::Model;
 
 /// The distinct values of a chunk that aren't null, in order of first appearance. Contracts see it as the list of them.
-#[derive(Drop)]
+#[derive(Debug, Drop)]
 pub struct Dictionary {
     values: Vec<Datum>,
     places: BTreeMap<Datum, u32>,
@@ -214,6 +214,21 @@ impl Dictionary {
     {
         let found = dictionary_of(alloc, kind, values)?;
         Ok(found)
+    }
+
+    /// How many values it has, which the head of the dictionary page names.
+    pub fn len(&self) -> usize
+        ensures len { result ≡ length self.now }
+        ensures few { result ≤ most_values }
+    {
+        self.values.len()
+    }
+
+    /// Whether it has no value, as that of a chunk of nulls.
+    pub fn is_empty(&self) -> bool
+        ensures { result ≡ (length self.now == 0) }
+    {
+        self.values.is_empty()
     }
 
     /// The body of the dictionary page: the values in the PLAIN encoding, which the page's head names as 0 (Parquet
