@@ -1,0 +1,11 @@
+//! The pages of Parquet files, both ways: PLAIN values, definition levels, dictionaries and the places of values in them.
+#![tactic(auto)]
+
+mod fault;
+mod hybrid;
+mod levels;
+mod pages;
+mod places;
+mod plain;
+
+pub use pages::{page_has_null, read_dictionary, read_page, write_page};
