@@ -1,1 +1,4 @@
 pub mod PageLemmas
+pub mod Parts
+pub mod WriterLemmas
+pub mod Standing

@@ -2,11 +2,17 @@
 #![tactic(auto)]
 
 mod chunk;
+mod chunk_writer;
+mod element_writer;
+mod group_writer;
 mod groups;
+mod page_writer;
 mod pages;
 mod reading;
 mod rows;
 mod source;
 mod tree;
+mod writing;
 
 pub use reading::read_file;
+pub use writing::write_file;

@@ -83,11 +83,11 @@ fn passes(page: &PageAt, ends: usize) -> bool
 
 /// Null stands in no column that has none.
 #[tactic(auto, unfolding(crate::specs::Reading::nulls_checked))]
-fn check_nulls(leaf: &Leaf, page: &PageAt, file: &[u8]) -> Result<(), FileFault>
+fn check_nulls(alloc: Global, leaf: &Leaf, page: &PageAt, file: &[u8]) -> Result<(), FileFault>
     ensures { Reads result (spec.nulls_checked leaf.now page.now file.now) }
 {
     if leaf.optional && !leaf.nullable {
-        if page_has_null(leaf.optional, page, file)? {
+        if page_has_null(alloc, leaf.optional, page, file)? {
             return Err(FileFault::Shape {
                 column: leaf.name.copy()?,
             });
@@ -166,7 +166,7 @@ fn with_values(
     if passes(page, span.ends) {
         return Err(FileFault::Page { at: page.body });
     }
-    check_nulls(leaf, page, file)?;
+    check_nulls(alloc, leaf, page, file)?;
     let more = page_values(alloc, leaf, file, page, &walk.dictionary)?;
     Ok(Walk {
         at: page.body + page.head.compressed_page_size.unsigned_abs() as usize,
