@@ -4,3 +4,7 @@ pub mod Pieces
 pub mod Texts
 pub mod InLine
 pub mod Bits
+pub mod DatumOrder
+pub mod Distinct
+pub mod Widths
+pub mod PackedBytes

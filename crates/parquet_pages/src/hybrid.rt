@@ -1,6 +1,6 @@
 //! Packed values and the hybrid, of which no fault is told apart from another.
-ghost use Rattle.std.specs.Prelude.{◌≡◌, ◌^◌, ◌<◌, ◌≤◌, ℕ, List, length, slice_index, EachIndex, Some, IfOk, MatchResult};
-ghost use Rattle.bit_pack.specs.Bits.{most_values};
+ghost use Rattle.std.specs.Prelude.{◌≡◌, ◌^◌, ◌<◌, ◌≤◌, ℕ, List, length, slice_index, EachIndex, Some, ◌++◌, IfOk, OnOk, MatchResult};
+ghost use Rattle.bit_pack.specs.Bits.{most_values, Packs};
 ghost use Rattle.parquet_pages.specs.Gives.{Fails};
 ghost use Rattle.parquet_pages.specs.Hybrids as spec;
 ghost use Rattle.bit_pack.specs.Hybrid.{hybrid_of};
@@ -62,17 +62,31 @@ pub(crate) fn hybrid_text(alloc: Global, width: u8, values: &[u32]) -> Result<Ve
     }
 }
 
-/// Bits in the fewest bytes, the lowest bit of each byte first.
-pub(crate) fn bits_text(alloc: Global, bits: &[u32]) -> Result<Vec<u8>, NoMemory>
+/// Appends bits in the fewest bytes, the lowest bit of each byte first.
+pub(crate) fn append_bits(
+    alloc: Global,
+    bits: &[u32],
+    out: &mut Vec<u8>,
+) -> Result<(), NoMemory>
     requires few { length bits.now ≤ most_values }
     requires fit { EachIndex bits.now (λ k. slice_index bits.now k < 2 ^ 1) }
-    ensures { IfOk result (λ bytes. bytes.items ≡ written.bits_text bits.now) }
+    ensures { OnOk result (out.new.items ≡ out.old.items ++ written.bits_text bits.now) }
 {
     match pack(alloc, 1, bits) {
-        Ok(bytes) => Ok(bytes),
+        Ok(bytes) => append_packed(bits, bytes.as_slice(), out),
         Err(PackFault::NoMemory) => Err(NoMemory),
         Err(PackFault::Short) => unreachable!(),
         Err(PackFault::Width { width: _ }) => unreachable!(),
         Err(PackFault::Count) => unreachable!(),
     }
+}
+
+/// Appends the bytes that bits were packed into.
+fn append_packed(bits: &[u32], bytes: &[u8], out: &mut Vec<u8>) -> Result<(), NoMemory>
+    requires { Packs 1 bits.now bytes.now }
+    ensures { OnOk result (out.new.items ≡ out.old.items ++ written.bits_text bits.now) }
+{
+    let _bits = bits;
+    out.extend_from_slice(bytes)?;
+    Ok(())
 }

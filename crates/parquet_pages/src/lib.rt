@@ -1,6 +1,7 @@
 //! The pages of Parquet files, both ways: PLAIN values, definition levels, dictionaries and the places of values in them.
 #![tactic(auto)]
 
+mod dictionary;
 mod fault;
 mod hybrid;
 mod levels;
@@ -8,4 +9,5 @@ mod pages;
 mod places;
 mod plain;
 
+pub use dictionary::Dictionary;
 pub use pages::{page_has_null, read_dictionary, read_page, write_page};

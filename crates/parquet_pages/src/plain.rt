@@ -8,7 +8,7 @@ ghost use Rattle.parquet_pages.specs.Plain as spec;
 ghost use Rattle.parquet_pages.specs.Written as written;
 
 use crate::fault::BodyFault;
-use crate::hybrid::{bits, bits_text};
+use crate::hybrid::{append_bits, bits};
 use row_base::{Datum, Kind, NoMemory, Text};
 use std::alloc::Global;
 use std::str;
@@ -193,7 +193,7 @@ fn append_value(value: &Datum, out: &mut Vec<u8>) -> Result<(), NoMemory>
     }
 }
 
-fn append(bytes: &[u8], out: &mut Vec<u8>) -> Result<(), NoMemory>
+pub(crate) fn append(bytes: &[u8], out: &mut Vec<u8>) -> Result<(), NoMemory>
     ensures { OnOk result (out.new.items ≡ out.old.items ++ bytes.now) }
 {
     out.extend_from_slice(bytes)?;
@@ -218,8 +218,7 @@ fn append_booleans(alloc: Global, values: &[Datum], out: &mut Vec<u8>) -> Result
     ensures { OnOk result (out.new.items ≡ out.old.items ++ written.bits_text (written.bits_of values.now)) }
 {
     let bits = bits_of(alloc, values)?;
-    let bytes = bits_text(alloc, bits.as_slice())?;
-    append(bytes.as_slice(), out)
+    append_bits(alloc, bits.as_slice(), out)
 }
 
 fn append_in_line(values: &[Datum], out: &mut Vec<u8>) -> Result<(), NoMemory>
