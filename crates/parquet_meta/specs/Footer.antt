@@ -38,11 +38,9 @@ no_column = record {
   dictionary_page_offset = None;
 }
 
-abbrev pub column_step : Piece → ℤ → Wire → ℕ → ℕ → ColumnKnown → Result (ColumnKnown × ℕ) FileFault
-column_step piece id found place at known =
+abbrev pub column_number_step : Piece → ℤ → Wire → ℕ → ℕ → ColumnKnown → Result (ColumnKnown × ℕ) FileFault
+column_number_step piece id found place at known =
     if int_eq id (pos 1) then put (λ n. record known { physical_type = Some n }) (typed wires.I32 found place (number_in piece at))
-    else if int_eq id (pos 2) then put (λ ns. record known { encodings = Some ns }) (typed wires.List found place (list_in wires.I32 number_of piece place at))
-    else if int_eq id (pos 3) then put (λ ts. record known { path_in_schema = Some ts }) (typed wires.List found place (list_in wires.Binary text_in piece place at))
     else if int_eq id (pos 4) then put (λ n. record known { codec = Some n }) (typed wires.I32 found place (number_in piece at))
     else if int_eq id (pos 5) then put (λ n. record known { num_values = Some n }) (typed wires.I64 found place (number_in piece at))
     else if int_eq id (pos 6) then put (λ n. record known { total_uncompressed_size = Some n }) (typed wires.I64 found place (number_in piece at))
@@ -50,6 +48,12 @@ column_step piece id found place at known =
     else if int_eq id (pos 9) then put (λ n. record known { data_page_offset = Some n }) (typed wires.I64 found place (number_in piece at))
     else if int_eq id (pos 11) then put (λ n. record known { dictionary_page_offset = Some n }) (typed wires.I64 found place (number_in piece at))
     else passed piece found at known
+
+abbrev pub column_step : Piece → ℤ → Wire → ℕ → ℕ → ColumnKnown → Result (ColumnKnown × ℕ) FileFault
+column_step piece id found place at known =
+    if int_eq id (pos 2) then put (λ ns. record known { encodings = Some ns }) (typed wires.List found place (list_in wires.I32 number_of piece place at))
+    else if int_eq id (pos 3) then put (λ ts. record known { path_in_schema = Some ts }) (typed wires.List found place (list_in wires.Binary text_in piece place at))
+    else column_number_step piece id found place at known
 
 abbrev pub column_made : ℕ → ColumnKnown → Result ColumnMetaData FileFault
 column_made stop known =

@@ -17,7 +17,12 @@ pub record Reading : Type 0 where
 abbrev pub Came : {Y : Type 0} → Reading → Reading → Y → Result (Y × ℕ) FileFault → Type 0
 Came old new value read = (read ≡ Ok (value, new.at)) × (new.piece ≡ old.piece) × (old.at ≤ new.at) × (new.at ≤ length old.piece.bytes)
 
--- what a call answered is what reading gives. Want of memory may always come
+-- what a call answered, seen by `view`, is what reading gives. Want of memory may always come
+abbrev pub MovesBy : {X Y : Type 0} → (X → Y) → Reading → Reading → Result X FileFault → Result (Y × ℕ) FileFault → Type 0
+MovesBy view old new (Ok x) read = Came old new (view x) read
+MovesBy view old new (Err f) read = FaultOf f read
+
+-- the same for a call whose answer is seen as it is
 abbrev pub Moves : {X : Type 0} → Reading → Reading → Result X FileFault → Result (X × ℕ) FileFault → Type 0
 Moves old new (Ok x) read = Came old new x read
 Moves old new (Err f) read = FaultOf f read

@@ -3,11 +3,14 @@
 #![tactic(auto)]
 
 mod fault;
+mod fields;
 mod file;
+mod footer;
 mod head;
 mod items;
 mod known;
 mod meta;
+mod reader;
 
 pub use fault::FileFault;
 pub use file::{read_footer, read_page_head, write_footer, write_page_head};

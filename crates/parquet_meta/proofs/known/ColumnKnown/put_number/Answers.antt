@@ -1,0 +1,16 @@
+use Rattle.std.proofs.Common.{◌≡◌, false, rules}
+use Rattle.std.specs.Prelude.{pos}
+use Rattle.std.specs.Ordering.{int_eq}
+use Rattle.parquet_meta.proofs.Loops.{skip_puts}
+use Rattle.parquet_meta.proofs.known.ColumnKnown.put_number.Goals as goal
+
+pub returns-in_default : goal.returns-in_default
+returns-in_default c =
+    let a : int_eq c.args.header.id (pos 1) ≡ false = search rules in
+    let b : int_eq c.args.header.id (pos 4) ≡ false = search rules in
+    let d : int_eq c.args.header.id (pos 5) ≡ false = search rules in
+    let e : int_eq c.args.header.id (pos 6) ≡ false = search rules in
+    let f : int_eq c.args.header.id (pos 7) ≡ false = search rules in
+    let h : int_eq c.args.header.id (pos 9) ≡ false = search rules in
+    let i : int_eq c.args.header.id (pos 11) ≡ false = search rules in
+    rw (a, b, d, e, f, h, i) (skip_puts c.args.reader.now c.skip.new.self c.args.self.now c.args.header.wire c.skip.result c.skip.ensures)

@@ -1,0 +1,386 @@
+//! The structs of a file's metadata, read (Parquet format, parquet.thrift).
+ghost use Rattle.std.specs.Prelude.{◌≡◌};
+ghost use Rattle.parquet_meta.specs.Pieces.{Moves, Puts};
+ghost use Rattle.parquet_meta.specs.Structs.{needed};
+ghost use Rattle.parquet_meta.specs.Values.{list_in, number_of, text_in, typed};
+ghost use Rattle.parquet_meta.specs.Footer as spec;
+ghost use Rattle.thrift_compact.specs.declared.wire.Wire.TheVariants as wires;
+
+use crate::fault::FileFault;
+use crate::fields::{Element, Fields, read_fields, read_list, read_number, read_text};
+use crate::known::{ChunkKnown, ColumnKnown, ElementKnown, FileKnown, GroupKnown};
+use crate::meta::{ColumnChunk, ColumnMetaData, FileMeta, RowGroup, SchemaElement};
+use crate::reader::{Header, Reader};
+use row_base::{Text, Texts};
+use std::alloc::Global;
+use thrift_compact::Wire;
+
+/// The value of a needed field; where it didn't come, the fault is at the struct's stop.
+pub(crate) fn needed<T>(stop: usize, value: Option<T>) -> Result<T, FileFault>
+    ensures { result ≡ needed stop value }
+{
+    match value {
+        Some(value) => Ok(value),
+        None => Err(FileFault::Thrift { at: stop }),
+    }
+}
+
+impl Element for i64 {
+    ghost kind = { wires.I32 };
+
+    ghost element = { number_of };
+
+    fn wire() -> Wire {
+        Wire::I32
+    }
+
+    fn read(_alloc: Global, reader: &mut Reader<'_>, _place: usize) -> Result<i64, FileFault> {
+        reader.number()
+    }
+}
+
+impl Element for Text {
+    ghost kind = { wires.Binary };
+
+    ghost element = { text_in };
+
+    fn wire() -> Wire {
+        Wire::Binary
+    }
+
+    fn read(alloc: Global, reader: &mut Reader<'_>, place: usize) -> Result<Text, FileFault> {
+        reader.text(alloc, place)
+    }
+}
+
+/// The value of a field that is a list of texts.
+fn read_texts(
+    alloc: Global,
+    reader: &mut Reader<'_>,
+    header: Header,
+) -> Result<Texts, FileFault>
+    ensures { Moves reader.old reader.new result (typed wires.List header.wire header.place (list_in wires.Binary text_in reader.old.piece header.place reader.old.at)) }
+{
+    let texts = read_list::<Text>(alloc, reader, header)?;
+    Ok(Texts::make(texts.into_vec()))
+}
+
+impl Fields<Global> for ColumnKnown {
+    ghost step = { spec.column_step };
+
+    fn put(&mut self, alloc: Global, reader: &mut Reader<'_>, header: Header) -> Result<(), FileFault> {
+        match header.id {
+            2 => {
+                self.encodings = Some(read_list(alloc, reader, header)?);
+                Ok(())
+            }
+            3 => {
+                self.path_in_schema = Some(read_texts(alloc, reader, header)?);
+                Ok(())
+            }
+            _ => self.put_number(reader, header),
+        }
+    }
+}
+
+impl ColumnKnown {
+    /// Reads a number, where the field is one.
+    fn put_number(&mut self, reader: &mut Reader<'_>, header: Header) -> Result<(), FileFault>
+        ensures { Puts reader.old reader.new self.new result (spec.column_number_step reader.old.piece header.id header.wire header.place reader.old.at self.old) }
+    {
+        match header.id {
+            1 => {
+                self.physical_type = Some(read_number(reader, header, Wire::I32)?);
+                Ok(())
+            }
+            4 => {
+                self.codec = Some(read_number(reader, header, Wire::I32)?);
+                Ok(())
+            }
+            5 => {
+                self.num_values = Some(read_number(reader, header, Wire::I64)?);
+                Ok(())
+            }
+            6 => {
+                self.total_uncompressed_size = Some(read_number(reader, header, Wire::I64)?);
+                Ok(())
+            }
+            7 => {
+                self.total_compressed_size = Some(read_number(reader, header, Wire::I64)?);
+                Ok(())
+            }
+            9 => {
+                self.data_page_offset = Some(read_number(reader, header, Wire::I64)?);
+                Ok(())
+            }
+            11 => {
+                self.dictionary_page_offset = Some(read_number(reader, header, Wire::I64)?);
+                Ok(())
+            }
+            _ => reader.skip(header.wire),
+        }
+    }
+}
+
+fn column_of(stop: usize, known: ColumnKnown) -> Result<ColumnMetaData, FileFault>
+    ensures { result ≡ spec.column_made stop known }
+{
+    Ok(ColumnMetaData {
+        physical_type: needed(stop, known.physical_type)?,
+        encodings: known.encodings,
+        path_in_schema: needed(stop, known.path_in_schema)?,
+        codec: needed(stop, known.codec)?,
+        num_values: needed(stop, known.num_values)?,
+        total_uncompressed_size: known.total_uncompressed_size,
+        total_compressed_size: needed(stop, known.total_compressed_size)?,
+        data_page_offset: needed(stop, known.data_page_offset)?,
+        dictionary_page_offset: known.dictionary_page_offset,
+    })
+}
+
+#[tactic(auto, unfolding(crate::specs::Footer::column_in))]
+fn read_column(
+    alloc: Global,
+    reader: &mut Reader<'_>,
+    header: Header,
+) -> Result<ColumnMetaData, FileFault>
+    ensures { Moves reader.old reader.new result (typed wires.Struct header.wire header.place (spec.column_in reader.old.piece header.place reader.old.at)) }
+{
+    header.expect(Wire::Struct)?;
+    let none = ColumnKnown {
+        physical_type: None,
+        encodings: None,
+        path_in_schema: None,
+        codec: None,
+        num_values: None,
+        total_uncompressed_size: None,
+        total_compressed_size: None,
+        data_page_offset: None,
+        dictionary_page_offset: None,
+    };
+    let (known, stop) = read_fields(alloc, reader, none)?;
+    column_of(stop, known)
+}
+
+impl Fields<Global> for GroupKnown {
+    ghost step = { spec.group_step };
+
+    fn put(&mut self, alloc: Global, reader: &mut Reader<'_>, header: Header) -> Result<(), FileFault> {
+        match header.id {
+            1 => {
+                self.columns = Some(read_list(alloc, reader, header)?);
+                Ok(())
+            }
+            2 => {
+                self.total_byte_size = Some(read_number(reader, header, Wire::I64)?);
+                Ok(())
+            }
+            3 => {
+                self.num_rows = Some(read_number(reader, header, Wire::I64)?);
+                Ok(())
+            }
+            _ => reader.skip(header.wire),
+        }
+    }
+}
+
+impl Element for ColumnChunk {
+    ghost kind = { wires.Struct };
+
+    ghost element = { spec.chunk_in };
+
+    fn wire() -> Wire {
+        Wire::Struct
+    }
+
+    #[tactic(auto, unfolding(crate::specs::Footer::chunk_in))]
+    fn read(alloc: Global, reader: &mut Reader<'_>, _place: usize) -> Result<ColumnChunk, FileFault> {
+        let none = ChunkKnown {
+            file_path: None,
+            file_offset: None,
+            meta_data: None,
+        };
+        let (known, stop) = read_fields(alloc, reader, none)?;
+        chunk_of(stop, known)
+    }
+}
+
+impl Fields<Global> for ChunkKnown {
+    ghost step = { spec.chunk_step };
+
+    fn put(&mut self, alloc: Global, reader: &mut Reader<'_>, header: Header) -> Result<(), FileFault> {
+        match header.id {
+            1 => {
+                self.file_path = Some(read_text(alloc, reader, header)?);
+                Ok(())
+            }
+            2 => {
+                self.file_offset = Some(read_number(reader, header, Wire::I64)?);
+                Ok(())
+            }
+            3 => {
+                self.meta_data = Some(read_column(alloc, reader, header)?);
+                Ok(())
+            }
+            _ => reader.skip(header.wire),
+        }
+    }
+}
+
+fn chunk_of(stop: usize, known: ChunkKnown) -> Result<ColumnChunk, FileFault>
+    ensures { result ≡ spec.chunk_made stop known }
+{
+    Ok(ColumnChunk {
+        file_path: known.file_path,
+        file_offset: known.file_offset,
+        meta_data: needed(stop, known.meta_data)?,
+    })
+}
+
+impl Element for RowGroup {
+    ghost kind = { wires.Struct };
+
+    ghost element = { spec.group_in };
+
+    fn wire() -> Wire {
+        Wire::Struct
+    }
+
+    #[tactic(auto, unfolding(crate::specs::Footer::group_in))]
+    fn read(alloc: Global, reader: &mut Reader<'_>, _place: usize) -> Result<RowGroup, FileFault> {
+        let none = GroupKnown {
+            columns: None,
+            total_byte_size: None,
+            num_rows: None,
+        };
+        let (known, stop) = read_fields(alloc, reader, none)?;
+        group_of(stop, known)
+    }
+}
+
+fn group_of(stop: usize, known: GroupKnown) -> Result<RowGroup, FileFault>
+    ensures { result ≡ spec.group_made stop known }
+{
+    Ok(RowGroup {
+        columns: needed(stop, known.columns)?,
+        total_byte_size: known.total_byte_size,
+        num_rows: needed(stop, known.num_rows)?,
+    })
+}
+
+impl Fields<Global> for ElementKnown {
+    ghost step = { spec.element_step };
+
+    fn put(&mut self, alloc: Global, reader: &mut Reader<'_>, header: Header) -> Result<(), FileFault> {
+        match header.id {
+            1 => {
+                self.physical_type = Some(read_number(reader, header, Wire::I32)?);
+                Ok(())
+            }
+            3 => {
+                self.repetition_type = Some(read_number(reader, header, Wire::I32)?);
+                Ok(())
+            }
+            4 => {
+                self.name = Some(read_text(alloc, reader, header)?);
+                Ok(())
+            }
+            5 => {
+                self.num_children = Some(read_number(reader, header, Wire::I32)?);
+                Ok(())
+            }
+            6 => {
+                self.converted_type = Some(read_number(reader, header, Wire::I32)?);
+                Ok(())
+            }
+            _ => reader.skip(header.wire),
+        }
+    }
+}
+
+fn element_of(stop: usize, known: ElementKnown) -> Result<SchemaElement, FileFault>
+    ensures { result ≡ spec.element_made stop known }
+{
+    Ok(SchemaElement {
+        physical_type: known.physical_type,
+        repetition_type: known.repetition_type,
+        name: needed(stop, known.name)?,
+        num_children: known.num_children,
+        converted_type: known.converted_type,
+    })
+}
+
+impl Element for SchemaElement {
+    ghost kind = { wires.Struct };
+
+    ghost element = { spec.element_in };
+
+    fn wire() -> Wire {
+        Wire::Struct
+    }
+
+    #[tactic(auto, unfolding(crate::specs::Footer::element_in))]
+    fn read(alloc: Global, reader: &mut Reader<'_>, _place: usize) -> Result<SchemaElement, FileFault> {
+        let none = ElementKnown {
+            physical_type: None,
+            repetition_type: None,
+            name: None,
+            num_children: None,
+            converted_type: None,
+        };
+        let (known, stop) = read_fields(alloc, reader, none)?;
+        element_of(stop, known)
+    }
+}
+
+impl Fields<Global> for FileKnown {
+    ghost step = { spec.file_step };
+
+    fn put(&mut self, alloc: Global, reader: &mut Reader<'_>, header: Header) -> Result<(), FileFault> {
+        match header.id {
+            1 => {
+                self.version = Some(read_number(reader, header, Wire::I32)?);
+                Ok(())
+            }
+            2 => {
+                self.schema = Some(read_list(alloc, reader, header)?);
+                Ok(())
+            }
+            3 => {
+                self.num_rows = Some(read_number(reader, header, Wire::I64)?);
+                Ok(())
+            }
+            4 => {
+                self.row_groups = Some(read_list(alloc, reader, header)?);
+                Ok(())
+            }
+            _ => reader.skip(header.wire),
+        }
+    }
+}
+
+fn file_of(stop: usize, known: FileKnown) -> Result<FileMeta, FileFault>
+    ensures { result ≡ spec.file_made stop known }
+{
+    Ok(FileMeta {
+        version: known.version,
+        schema: needed(stop, known.schema)?,
+        num_rows: needed(stop, known.num_rows)?,
+        row_groups: needed(stop, known.row_groups)?,
+    })
+}
+
+/// The metadata of a file.
+#[tactic(auto, unfolding(crate::specs::Footer::file_in))]
+pub(crate) fn read_file(alloc: Global, reader: &mut Reader<'_>) -> Result<FileMeta, FileFault>
+    ensures { Moves reader.old reader.new result (spec.file_in reader.old.piece 0 reader.old.at) }
+{
+    let none = FileKnown {
+        version: None,
+        schema: None,
+        num_rows: None,
+        row_groups: None,
+    };
+    let (known, stop) = read_fields(alloc, reader, none)?;
+    file_of(stop, known)
+}
