@@ -19,14 +19,14 @@ pub same_datum : (v q : Datum) → is_eq (datum_cmp v q) ≡ true → v ≡ q
 same_datum v q e = datum_apart v q ((Equal-is (datum_cmp v q)).0 e)
 
 -- the place of one more value
-last_place : ℕ → Datum → Datum → Option ℕ
+unfoldable pub last_place : ℕ → Datum → Datum → Option ℕ
 last_place n v q = cond (is_eq (datum_cmp v q)) (Some n) None
 
-or_last : Option ℕ → Option ℕ → Option ℕ
+unfoldable pub or_last : Option ℕ → Option ℕ → Option ℕ
 or_last (Some k) o = Some k
 or_last None o = o
 
-place_of-push : (found : List Datum) (v q : Datum) → place_of (found ++ v ∷ []) q ≡ or_last (place_of found q) (last_place (length found) v q)
+pub place_of-push : (found : List Datum) (v q : Datum) → place_of (found ++ v ∷ []) q ≡ or_last (place_of found q) (last_place (length found) v q)
 unfolding last_place or_last
 place_of-push [] v q = elim (cases_Bool (is_eq (datum_cmp v q))) [
   | inl t ↦ rw t refl
