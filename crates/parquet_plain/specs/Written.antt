@@ -1,12 +1,11 @@
 -- The bytes of a file that is written (README.md, "File format"; parquet.thrift).
-use Rattle.std.specs.Prelude.{ℕ, zero, suc, ◌+◌, ◌/◌, ◌≡◌, ◌%◌, ◌≤◌, Bool, true, false, if◌then◌else◌, List, [], ◌∷◌, ◌++◌, map, length, take, drop, codes, slice_index_or, Option, Some, None, ℤ, pos}
+use Rattle.std.specs.Prelude.{ℕ, zero, suc, ◌+◌, ◌/◌, ◌≡◌, ◌%◌, Bool, true, false, if◌then◌else◌, List, [], ◌∷◌, ◌++◌, map, length, take, drop, codes, slice_index_or, Option, Some, None, ℤ, pos}
 use Rattle.std.specs.List.{All}
 use Rattle.row_base.specs.declared.row.Datum.{Datum}
 use Rattle.row_base.specs.declared.row.Datum.TheVariants as datum
 use Rattle.row_base.specs.declared.row.Kind.{Kind}
 use Rattle.row_base.specs.declared.row.Kind.TheVariants as kind
 use Rattle.row_base.specs.declared.schema.Column.{Column}
-use Rattle.row_base.specs.Dates.{IsDayNumber}
 use Rattle.row_base.specs.Schema.{TableSchema}
 use Rattle.parquet_meta.specs.declared.head.PageHead.{PageHead}
 use Rattle.parquet_meta.specs.declared.meta.FileMeta.{FileMeta}
@@ -80,15 +79,6 @@ AreIn (Some ds) nullable vs = All (λ v. can_place ds nullable v ≡ true) vs
 unfoldable pub page_of : Column → Option (List Datum) → List Datum → List ℕ
 page_of c None vs = data_page (pos 0) (length vs) (page_text c.kind c.nullable vs)
 page_of c (Some ds) vs = data_page (pos 8) (length vs) (index_text c.nullable ds vs)
-
--- a datum whose text has no more bytes, and whose day is in no other year, than a table allows
-abbrev pub IsStorable : Datum → Type 0
-IsStorable datum.Null = Unit {0}
-IsStorable (datum.Long n) = Unit {0}
-IsStorable (datum.Integer n) = Unit {0}
-IsStorable (datum.Boolean b) = Unit {0}
-IsStorable (datum.Text t) = length t ≤ 65535
-IsStorable (datum.Date n) = IsDayNumber n
 
 -- the dictionary page of a chunk, where it has a dictionary
 unfoldable pub front_of : Column → Option (List Datum) → List ℕ

@@ -61,7 +61,6 @@ fn meta_of(
 pub fn write_file(schema: &Schema, rows: &[Row], alloc: Global) -> Result<Vec<u8>, NoMemory>
     requires few { length rows.now ≤ 16777216 }
     requires fits { All (FitsSchema schema.now) rows.now }
-    requires storable { All (All spec.IsStorable) rows.now }
     ensures { IfOk result (λ v. v.items ≡ spec.file_text schema.now rows.now) }
 {
     let mut out = Vec::new(alloc);
