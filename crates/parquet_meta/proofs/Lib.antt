@@ -3,3 +3,8 @@ pub mod Bounds
 pub mod Moved
 pub mod Loops
 pub mod Puts
+pub mod Exact
+pub mod ExactFooter
+pub mod ExactHeads
+pub mod ExactFile
+pub mod SpelledWritten

@@ -89,7 +89,7 @@ head_step piece id found place at known =
     else if int_eq id (pos 3) then put (λ n. record known { compressed_page_size = Some n }) (typed wires.I32 found place (number_in piece at))
     else if int_eq id (pos 5) then put (λ d. record known { data_page = Some d }) (typed wires.Struct found place (data_in piece place at))
     else if int_eq id (pos 7) then put (λ d. record known { dictionary_page = Some d }) (typed wires.Struct found place (dictionary_in piece place at))
-    else if int_eq id (pos 8) then put (λ nothing. record known { data_page_v2 = true }) (typed wires.Struct found place (skipped_in piece found at))
+    else if int_eq id (pos 8) then put (λ nothing. record known { data_page_v2 = true }) (typed wires.Struct found place (skipped_in piece wires.Struct at))
     else passed piece found at known
 
 -- a page of this type needs a field

@@ -5,3 +5,5 @@ pub mod Structs
 pub mod Footer
 pub mod Heads
 pub mod Written
+pub mod Grammar
+pub mod Laws

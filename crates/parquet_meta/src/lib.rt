@@ -9,6 +9,7 @@ mod footer;
 mod head;
 mod items;
 mod known;
+mod laws;
 mod meta;
 mod page;
 mod reader;
@@ -18,6 +19,7 @@ pub use fault::FileFault;
 pub use file::{read_footer, read_page_head, write_footer, write_page_head};
 pub use head::{DataPageHead, DictionaryPageHead, PageAt, PageHead};
 pub use items::Items;
+pub use laws::{reading_is_exact, written_is_read};
 pub use meta::{ColumnChunk, ColumnMetaData, FileMeta, RowGroup, SchemaElement};
 
 #[cfg(test)]

@@ -136,7 +136,7 @@ impl Fields<()> for HeadKnown {
             }
             8 => {
                 header.expect(Wire::Struct)?;
-                reader.skip(header.wire)?;
+                reader.skip(Wire::Struct)?;
                 self.data_page_v2 = true;
                 Ok(())
             }
