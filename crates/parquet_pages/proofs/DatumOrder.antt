@@ -32,4 +32,4 @@ pub put_by_order : (new old : List (Datum × ℕ)) (v : Datum) (place : ℕ) (q 
     → place_in new q ≡ cond (is_eq (datum_cmp v q)) (Some place) (place_in old q)
 put_by_order new old v place q e =
     subst (λ (order : Datum → Datum → Ordering). lookup (λ k. is_eq (order q k)) new
-      ≡ cond (is_eq (order v q)) (Some place) (lookup (λ k. is_eq (order q k)) old)) derived_is e
+    ≡ cond (is_eq (order v q)) (Some place) (lookup (λ k. is_eq (order q k)) old)) derived_is e

@@ -116,8 +116,8 @@ pub indexed_added : (found after : List Datum) (old new : List (Datum × ℕ)) (
 indexed_added found after old new v key last place indexed room none same_key same_last here pushed put =
     let push : after ≡ found ++ v ∷ [] = pushed ∙ ap (λ d. found ++ d ∷ []) same_last in
     subst (λ vs. IsIndexed vs new) (sym push) (indexed_push found old new v indexed room none
-      (λ q. put q ∙ ap (λ d. cond (is_eq (datum_cmp d q)) (Some place) (place_in old q)) same_key
-        ∙ ap (λ n. cond (is_eq (datum_cmp v q)) (Some n) (place_in old q)) here))
+    (λ q. put q ∙ ap (λ d. cond (is_eq (datum_cmp d q)) (Some place) (place_in old q)) same_key
+    ∙ ap (λ n. cond (is_eq (datum_cmp v q)) (Some n) (place_in old q)) here))
 
 -- ---- places of values
 

@@ -15,7 +15,7 @@ use Rattle.parquet_pages.specs.Grammar.{Has, IsDictionaryOf}
 use Rattle.parquet_pages.proofs.Chains.{inside, test_some}
 use Rattle.parquet_pages.proofs.Distinct.{same_datum, place_of-push, last_place, or_last, place_of-lt}
 
-itself : (v : Datum) → is_eq (datum_cmp v v) ≡ true
+pub itself : (v : Datum) → is_eq (datum_cmp v v) ≡ true
 itself v = (Equal-is (datum_cmp v v)).1 (tied_itself datum_cmp_total v)
 
 -- a place is there, or it isn't
@@ -26,7 +26,7 @@ place_cases None = inr refl
 has_from : (vs : List Datum) (q : Datum) (k : ℕ) → place_of vs q ≡ Some k → Has vs q
 has_from vs q k e = ap is_some e
 
-has_place : (vs : List Datum) (q : Datum) → Has vs q → (k : ℕ) × (place_of vs q ≡ Some k)
+pub has_place : (vs : List Datum) (q : Datum) → Has vs q → (k : ℕ) × (place_of vs q ≡ Some k)
 has_place vs q h = by_place (place_of vs q) h
   where
     by_place : (o : Option ℕ) → is_some o ≡ true → (k : ℕ) × (o ≡ Some k)
@@ -86,11 +86,13 @@ stays before found v d old = record {
     again : (q : Datum) → is_null q ≡ false → v ≡ q → (is_null v ≡ true) ⊎ Has found v → Has found q
     again q some same (inl null) = let h : is_null q ≡ true = ap is_null (sym same) ∙ null in absurd cc
     again q some same (inr h) = subst (Has found) same h
+
     all : (q : Datum) → is_null q ≡ false → ((k : ℕ) × (place_of (before ++ v ∷ []) q ≡ Some k)) → Has found q
     all q some (k, here) = elim (push_cases before v q k here) [
       | inl there ↦ d.all q some (has_from before q k there)
       | inr (same, end, none) ↦ again q some same old
     ]
+
     back : (q : Datum) (i m : ℕ) → place_of found q ≡ Some i → place_of (before ++ v ∷ []) q ≡ Some m → place_of before q ≡ Some m
     back q i m here there =
         let p = has_place before q (d.only q (has_from found q i here)).1 in
@@ -110,24 +112,29 @@ grows before found v d some none = record {
       | inl old ↦ has_push found v q (d.all q there (has_from before q k old))
       | inr (same, end, new) ↦ subst (Has (found ++ v ∷ [])) same (has_last found v)
     ]
+
     only : (q : Datum) → ((k : ℕ) × (place_of (found ++ v ∷ []) q ≡ Some k)) → (is_null q ≡ false) × Has (before ++ v ∷ []) q
     only q (k, here) = elim (push_cases found v q k here) [
       | inl old ↦ ((d.only q (has_from found q k old)).0, has_push before v q (d.only q (has_from found q k old)).1)
       | inr (same, end, new) ↦ (ap is_null (sym same) ∙ some, subst (Has (before ++ v ∷ [])) same (has_last before v))
     ]
+
     once : (i : ℕ) (w : Datum) → (slice_get found i ≡ Some w) ⊎ ((i ≡ length found) × (v ≡ w)) → place_of (found ++ v ∷ []) w ≡ Some i
     once i w (inl old) = push_old found v w i (d.once i w old)
     once i w (inr (end, same)) = ap (place_of (found ++ v ∷ [])) (sym same) ∙ push_itself found v none ∙ ap Some (sym end)
+
     back : (q : Datum) (i m : ℕ) → place_of found q ≡ Some i → place_of (before ++ v ∷ []) q ≡ Some m → place_of before q ≡ Some m
     back q i m here there =
         let p = has_place before q (d.only q (has_from found q i here)).1 in
         p.1 ∙ sym (push_old before v q p.0 p.1) ∙ there
+
     fresh : (o : Option ℕ) → place_of before v ≡ o → place_of before v ≡ None
     fresh (Some k) here = let h = has_place found v (d.all v some (has_from before v k here)) in absurd (differ (place_of found v) h.0 h.1 none)
       where
         differ : (o : Option ℕ) (k : ℕ) → o ≡ Some k → o ≡ None → ⊥
         differ o k e f = cc
     fresh None here = here
+
     order : (a b : Datum) (i j m n : ℕ) → (place_of found a ≡ Some i) ⊎ ((v ≡ a) × (i ≡ length found) × (place_of found a ≡ None))
         → (place_of found b ≡ Some j) ⊎ ((v ≡ b) × (j ≡ length found) × (place_of found b ≡ None))
         → place_of (before ++ v ∷ []) a ≡ Some m → place_of (before ++ v ∷ []) b ≡ Some n → i < j → m < n

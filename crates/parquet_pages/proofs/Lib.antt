@@ -14,3 +14,5 @@ pub mod Kept
 pub mod PlainBack
 pub mod Returning
 pub mod FirstPlaces
+pub mod DictionaryFits
+pub mod NullsFound

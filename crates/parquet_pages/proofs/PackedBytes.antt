@@ -40,8 +40,8 @@ packed_again w (v ∷ values) n each none =
     let first : v ≡ n / 2 ^ (0 * w) % 2 ^ w = each 0 (omega arith) in
     let low : v ≡ n % 2 ^ w = first ∙ ap (λ k. k % 2 ^ w) (at_zero w n) in
     let rest : n / 2 ^ w ≡ packed_number w values = packed_again w values (n / 2 ^ w)
-        (λ k lt. each (suc k) (omega (arith, lt)) ∙ ap (λ m. m % 2 ^ w) (one_field w n k))
-        (sym (one_field w n (length values)) ∙ none) in
+    (λ k lt. each (suc k) (omega (arith, lt)) ∙ ap (λ m. m % 2 ^ w) (one_field w n k))
+    (sym (one_field w n (length values)) ∙ none) in
     parts n (2 ^ w) (pow_pos w) ∙ ap (λ m. m + 2 ^ w * (n / 2 ^ w)) (sym low) ∙ ap (λ m. v + 2 ^ w * m) rest
 
 pub bits_text_is : (bits bytes : List ℕ) → IsBytes bytes → Packs 1 bits bytes → bytes ≡ bits_text bits

@@ -154,9 +154,9 @@ pub frame_found : (page : PageAt) (values : ℤ) (file : List ℕ) (count : ℕ)
 unfolding body_of
 frame_found page values file count bytes f =
     bind_at (count_of values) (λ (n : ℕ). option_map (λ (bs : List ℕ). (n, bs)) (bytes_at page.body page.head.compressed_page_size file)) count
-      (count_found values count f.counted f.few)
+    (count_found values count f.counted f.few)
     ∙ map_at (λ (bs : List ℕ). (count, bs)) (bytes_at page.body page.head.compressed_page_size file) (take f.size (drop page.body file))
-      (bytes_found page.body page.head.compressed_page_size f.size file f.sized f.within)
+    (bytes_found page.body page.head.compressed_page_size f.size file f.sized f.within)
     ∙ ap Some (pair_of count count (take f.size (drop page.body file)) bytes refl (sym f.stands))
 
 frame_only : (page : PageAt) (values : ℤ) (file : List ℕ) (b : ℕ × List ℕ) → body_of page values file ≡ Some b → Framed page values file b.0 b.1
@@ -182,7 +182,7 @@ bind_ok : {A B : Type 0} (r : Result A FileFault) (f : A → Result B FileFault)
 bind_ok (Ok x) f y e = (x, refl, e)
 bind_ok (Err d) f y e = absurd cc
 
-bind_from : {A B : Type 0} (r : Result A FileFault) (f : A → Result B FileFault) (x : A) → r ≡ Ok x → (r >>= f) ≡ f x
+pub bind_from : {A B : Type 0} (r : Result A FileFault) (f : A → Result B FileFault) (x : A) → r ≡ Ok x → (r >>= f) ≡ f x
 bind_from r f x e = rw e refl
 
 ok_inside : {A : Type 0} (x y : A) → ◌≡◌ {A = Result A FileFault} (Ok x) (Ok y) → x ≡ y
@@ -192,7 +192,7 @@ page_ok : {A : Type 0} (at : ℕ) (o : Option A) (x : A) → or_page at o ≡ Ok
 page_ok at (Some y) x e = ap Some (ok_inside y x e)
 page_ok at None x e = absurd cc
 
-page_from : {A : Type 0} (at : ℕ) (o : Option A) (x : A) → o ≡ Some x → or_page at o ≡ Ok x
+pub page_from : {A : Type 0} (at : ℕ) (o : Option A) (x : A) → o ≡ Some x → or_page at o ≡ Ok x
 page_from at o x e = ap (or_page at) e
 
 guard_ok : {A : Type 0} (b : Bool) (d : FileFault) (r : Result A FileFault) (y : A) → cond b (Err d) r ≡ Ok y → (b ≡ false) × (r ≡ Ok y)
@@ -204,7 +204,7 @@ holds_ok true r d y e = (refl, e)
 holds_ok false r d y e = absurd cc
 
 -- the encodings that a head may name
-abbrev Named : Bool → DataPageHead → Type 0
+abbrev pub Named : Bool → DataPageHead → Type 0
 Named o head = (is_plain head.encoding || is_dictionary head.encoding ≡ true) × (o ≡ true → is_hybrid head.definition_level_encoding ≡ true)
 
 levels_looked : (o b : Bool) → o && not b ≡ false → o ≡ true → b ≡ true
@@ -249,11 +249,13 @@ head_only o page head e =
 dictionary_checked : (head given : DictionaryPageHead) → checked_dictionary head ≡ Ok given
     → (head ≡ given) × ((head.encoding ≡ pos 0) ⊎ (head.encoding ≡ pos 2))
 dictionary_checked head given e =
-    let p = holds_ok (is_plain head.encoding || int_eq head.encoding (pos 2)) (Ok head) (faults.Encoding head.encoding) given e in
-    (ok_inside head given p.1, elim (or_cases (is_plain head.encoding) (int_eq head.encoding (pos 2)) p.0) [
-      | inl zero_is ↦ inl (same_number head.encoding (pos 0) zero_is)
-      | inr two ↦ inr (same_number head.encoding (pos 2) two)
-    ])
+    let p = holds_ok (is_plain head.encoding || int_eq head.encoding (pos 2)) (Ok head) (faults.Encoding head.encoding) given e in (
+      ok_inside head given p.1,
+      elim (or_cases (is_plain head.encoding) (int_eq head.encoding (pos 2)) p.0) [
+        | inl zero_is ↦ inl (same_number head.encoding (pos 0) zero_is)
+        | inr two ↦ inr (same_number head.encoding (pos 2) two)
+      ],
+    )
 
 dictionary_passes : (head : DictionaryPageHead) → (head.encoding ≡ pos 0) ⊎ (head.encoding ≡ pos 2) → is_plain head.encoding || int_eq head.encoding (pos 2) ≡ true
 dictionary_passes head (inl zero_is) = or_left (is_plain head.encoding) (int_eq head.encoding (pos 2)) (number_same head.encoding (pos 0) zero_is)
@@ -283,7 +285,7 @@ present_named : {k : Kind} {e : ℤ} {d : Option (List Datum)} {count : ℕ} {by
 present_named {e = e} (plain zero_is all values) = or_left (is_plain e) (is_dictionary e) (number_same e (pos 0) zero_is)
 present_named {e = e} (indexed known named given values) = or_right (is_plain e) (is_dictionary e) (dictionary_is e named)
 
-body_named : {k : Kind} {e : ℤ} {d : Option (List Datum)} {count : ℕ} {bytes : List ℕ} {vs : List Datum} {o : Bool} → Body k e d count bytes vs o → is_plain e || is_dictionary e ≡ true
+pub body_named : {k : Kind} {e : ℤ} {d : Option (List Datum)} {count : ℕ} {bytes : List ℕ} {vs : List Datum} {o : Bool} → Body k e d count bytes vs o → is_plain e || is_dictionary e ≡ true
 body_named (required present) = present_named present
 body_named (optional levels rest values l present placed) = present_named present
 
@@ -293,9 +295,9 @@ unfolding page_values
 page_found k o page file d vs p =
     let named : Named o p.head = (body_named p.body, λ t. number_same p.head.definition_level_encoding (pos 3) (p.levels t)) in
     bind_from (data_head o page) (λ (h : DataPageHead). or_page page.body (body_of page h.num_values file) >>= λ (b : ℕ × List ℕ). or_page page.body (body_values k o h.encoding d b.0 b.1))
-      p.head (head_found o page p.head p.is_data p.has_head named)
+    p.head (head_found o page p.head p.is_data p.has_head named)
     ∙ bind_from (or_page page.body (body_of page p.head.num_values file)) (λ (b : ℕ × List ℕ). or_page page.body (body_values k o p.head.encoding d b.0 b.1))
-      (p.count, p.bytes) (page_from page.body (body_of page p.head.num_values file) (p.count, p.bytes) (frame_found page p.head.num_values file p.count p.bytes p.framed))
+    (p.count, p.bytes) (page_from page.body (body_of page p.head.num_values file) (p.count, p.bytes) (frame_found page p.head.num_values file p.count p.bytes p.framed))
     ∙ page_from page.body (body_values k o p.head.encoding d p.count p.bytes) vs (body_found p.body)
 
 pub page_only : (k : Kind) (o : Bool) (page : PageAt) (file : List ℕ) (d : Option (List Datum)) (vs : List Datum) → page_values k o page file d ≡ Ok vs
@@ -320,9 +322,9 @@ pub dictionary_page_found : (k : Kind) (page : PageAt) (file : List ℕ) (vs : L
 unfolding dictionary_values
 dictionary_page_found k page file vs p =
     bind_from (dictionary_head page) (λ (h : DictionaryPageHead). or_page page.body (body_of page h.num_values file) >>= λ (b : ℕ × List ℕ). or_page page.body (plain_values k b.0 b.1))
-      p.head (dictionary_found page p.head p.is_dictionary p.has_head p.encoded)
+    p.head (dictionary_found page p.head p.is_dictionary p.has_head p.encoded)
     ∙ bind_from (or_page page.body (body_of page p.head.num_values file)) (λ (b : ℕ × List ℕ). or_page page.body (plain_values k b.0 b.1))
-      (length vs, p.bytes) (page_from page.body (body_of page p.head.num_values file) (length vs, p.bytes) (frame_found page p.head.num_values file (length vs) p.bytes p.framed))
+    (length vs, p.bytes) (page_from page.body (body_of page p.head.num_values file) (length vs, p.bytes) (frame_found page p.head.num_values file (length vs) p.bytes p.framed))
     ∙ page_from page.body (plain_values k (length vs) p.bytes) vs (plain_found k (length vs) p.bytes vs refl p.body)
 
 pub dictionary_page_only : (k : Kind) (page : PageAt) (file : List ℕ) (vs : List Datum) → dictionary_values k page file ≡ Ok vs → DictionaryPage k page file vs

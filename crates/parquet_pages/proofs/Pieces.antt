@@ -130,7 +130,7 @@ piece_only : (w : ℕ) (bytes : List ℕ) (len : ℕ) (values : List ℕ) → pi
 unfolding piece_in
 piece_only w bytes len values e =
     let p = bind_some (header_in 5 bytes)
-        (λ h. cond (eqb (h.1 % 2) 0) (run_in w (h.1 / 2) h.0 bytes) (stretch_in w (h.1 / 2) h.0 bytes)) (len, values) e in
+    (λ h. cond (eqb (h.1 % 2) 0) (run_in w (h.1 / 2) h.0 bytes) (stretch_in w (h.1 / 2) h.0 bytes)) (len, values) e in
     let header = of_header bytes p.0.0 p.0.1 (header_only 5 bytes p.0.0 p.0.1 p.1) in
     by_parity p.0.0 p.0.1 header p.2
   where

@@ -128,6 +128,7 @@ holds_places (suc others) width count le = elim (cases_Bool (leb count (2 ^ widt
   where
     taken : leb count (2 ^ width) ≡ true → cond (leb count (2 ^ width)) width (width_from others (width + 1) count) ≡ width
     taken t = rw t refl
+
     passed : leb count (2 ^ width) ≡ false → cond (leb count (2 ^ width)) width (width_from others (width + 1) count) ≡ width_from others (width + 1) count
     passed f = rw f refl
 

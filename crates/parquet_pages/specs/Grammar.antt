@@ -1,7 +1,8 @@
 -- What pages are: their bytes and values as a relation, in the words of the Parquet format (README.md, "Data Pages",
 -- "Nulls"; Encodings.md, "Plain", "Run Length Encoding / Bit-Packing Hybrid", "Dictionary Encoding").
-use Rattle.std.specs.Prelude.{◌≡◌, ◌⊎◌, ◌↔◌, ℕ, ◌+◌, ◌*◌, ◌<◌, ◌≤◌, is_some, slice_get, ℤ, pos, Bool, true, false, List, [], ◌∷◌, ◌++◌, length, take, drop, map, Option, Some, None, Ok, IsUtf8}
+use Rattle.std.specs.Prelude.{◌≡◌, ◌⊎◌, ◌↔◌, ℕ, ◌+◌, ◌*◌, ◌<◌, ◌≤◌, is_some, slice_get, ℤ, pos, Bool, true, false, List, [], ◌∷◌, ◌++◌, length, take, drop, map, Option, Some, None, IfSome, Ok, IsUtf8}
 use Rattle.std.specs.Int.{w32, from_le_bytes}
+use Rattle.std.specs.List.{All, list_any}
 use Rattle.bit_pack.specs.Bits.{Packed, most_values}
 use Rattle.bit_pack.specs.Hybrid as hybrid
 use Rattle.row_base.specs.Dates.{IsDayNumber}
@@ -14,8 +15,9 @@ use Rattle.parquet_meta.specs.declared.head.DictionaryPageHead.{DictionaryPageHe
 use Rattle.parquet_meta.specs.declared.head.PageAt.{PageAt}
 use Rattle.parquet_pages.specs.Plain.{long_of, integer_of, boolean_of}
 use Rattle.parquet_pages.specs.Levels.{there, spread}
-use Rattle.parquet_pages.specs.Places.{is_null, present, place_of, is_boolean, dictionary_of, values_at}
-use Rattle.parquet_pages.specs.Pages.{page_values, dictionary_values}
+use Rattle.parquet_pages.specs.Places.{is_null, present, place_of, is_boolean, dictionary_of, can_place, values_at}
+use Rattle.parquet_pages.specs.Written.{CanStand}
+use Rattle.parquet_pages.specs.Pages.{page_values, page_has_null, dictionary_values}
 
 -- bytes of UTF-8, at most 65,535 of them
 pub record IsText (bytes : List ℕ) : Type 0 where
@@ -143,3 +145,14 @@ DictionariesPay = (k : Kind) (vs dictionary : List Datum) → dictionary_of k vs
 abbrev pub OthersDoNotPay : Type 0
 OthersDoNotPay = (k : Kind) (vs : List Datum) → dictionary_of k vs ≡ None
     → (is_boolean k ≡ true) ⊎ ((dictionary : List Datum) × IsDictionaryOf vs dictionary × (present vs < 2 * length dictionary))
+
+-- the values of a chunk have places in its dictionary, whose values can stand where the chunk's stand, and which isn't longer
+abbrev pub DictionariesFit : Type 0
+DictionariesFit = (k : Kind) (optional : Bool) (vs dictionary : List Datum) → dictionary_of k vs ≡ Some dictionary → All (CanStand k optional) vs
+    → All (λ v. can_place dictionary optional v ≡ true) vs × All (CanStand k false) dictionary × (length dictionary ≤ length vs)
+
+-- where a page's values can be read, by a dictionary without null, its levels alone tell whether null is among them
+abbrev pub NullsAreFound : Type 0
+NullsAreFound = (k : Kind) (optional : Bool) (page : PageAt) (file : List ℕ) (dictionary : Option (List Datum)) (vs : List Datum)
+    → page_values k optional page file dictionary ≡ Ok vs → IfSome dictionary (λ known. list_any is_null known ≡ false)
+    → page_has_null optional page file ≡ Ok (list_any is_null vs)

@@ -48,7 +48,7 @@ pieces_in zero width bytes count = if count == 0 then Some [] else None
 pieces_in (suc most) width bytes count =
     if count == 0 then Some []
     else (piece_in width bytes >>= λ p.
-        option_map (λ vs. take count (p.1 ++ vs)) (pieces_in most width (drop p.0 bytes) (count - length p.1)))
+    option_map (λ vs. take count (p.1 ++ vs)) (pieces_in most width (drop p.0 bytes) (count - length p.1)))
 
 -- so many values of a width, where the bytes hold them; each piece has a byte at least
 unfoldable pub hybrid_values : ℕ → List ℕ → ℕ → Option (List ℕ)

@@ -45,7 +45,7 @@ abbrev pub checked_head : Bool → DataPageHead → Result DataPageHead FileFaul
 checked_head optional head =
     if not (is_plain head.encoding || is_dictionary head.encoding) then Err (faults.Encoding head.encoding)
     else (if optional && not (is_hybrid head.definition_level_encoding)
-        then Err (faults.Encoding head.definition_level_encoding) else Ok head)
+    then Err (faults.Encoding head.definition_level_encoding) else Ok head)
 
 -- the head of a version 1 data page (`PageType` 0)
 unfoldable pub data_head : Bool → PageAt → Result DataPageHead FileFault

@@ -1,6 +1,6 @@
 //! Dictionaries of chunks (Parquet format, Encodings.md, "Dictionary Encoding (PLAIN_DICTIONARY = 2 and RLE_DICTIONARY =
 //! 8)").
-ghost use Rattle.std.specs.Prelude.{◌==◌, false, ◌≡◌, ◌^◌, ◌<◌, ◌≤◌, ◌+◌, ◌++◌, ◌∷◌, [], ℕ, true, length, slice_index, EachIndex, if◌then◌else◌, not, ◌||◌, nat_le, is_some, vec_len, Some, None, IfOk, OnOk};
+ghost use Rattle.std.specs.Prelude.{◌==◌, false, ◌≡◌, ◌^◌, ◌<◌, ◌≤◌, ◌+◌, ◌++◌, ◌∷◌, [], ℕ, true, length, slice_index, EachIndex, if◌then◌else◌, not, ◌||◌, nat_le, is_some, vec_len, Some, None, Bool, IfSome, IfOk, OnOk};
 ghost use Rattle.std.specs.List.{All};
 ghost use Rattle.std.specs.Ordering.{is_eq};
 ghost use Rattle.bit_pack.specs.Bits.{most_values};
@@ -66,11 +66,7 @@ fn place_in(places: &BTreeMap<Datum, u32>, value: &Datum) -> Option<u32>
 }
 
 /// Gives a value that has none a place.
-fn put_place(
-    places: &mut BTreeMap<Datum, u32>,
-    value: Datum,
-    place: u32,
-) -> Result<(), NoMemory>
+fn put_place(places: &mut BTreeMap<Datum, u32>, value: Datum, place: u32) -> Result<(), NoMemory>
     ensures { OnOk result ((q : ADatum) → spec.place_in places.new.entries q
         ≡ (if is_eq (datum_cmp value q) then Some place else spec.place_in places.old.entries q)) }
 {
@@ -103,11 +99,7 @@ fn add(
 }
 
 /// The distinct values that aren't null, with their places, where there are at most so many of them.
-fn distinct(
-    alloc: Global,
-    values: &[Datum],
-    most: usize,
-) -> Result<Option<Dictionary>, NoMemory>
+fn distinct(alloc: Global, values: &[Datum], most: usize) -> Result<Option<Dictionary>, NoMemory>
     requires { most ≤ most_values }
     ensures { IfOk result (λ d. d ≡ (if nat_le (length (spec.distinct_after [] values.now)) most
         then Some (spec.distinct_after [] values.now) else None)) }
@@ -127,6 +119,22 @@ fn distinct(
         values: found,
         places,
     }))
+}
+
+/// The dictionary of a chunk's values, where it pays.
+#[tactic(auto, unfolding(crate::specs::Places::dictionary_of))]
+fn dictionary_of(
+    alloc: Global,
+    kind: Kind,
+    values: &[Datum],
+) -> Result<Option<Dictionary>, NoMemory>
+    requires { length values.now ≤ most_values }
+    ensures { IfOk result (λ d. d ≡ spec.dictionary_of kind values.now) }
+{
+    if kind == Kind::Boolean {
+        return Ok(None);
+    }
+    distinct(alloc, values, present(values) / 2)
 }
 
 /// The least width, from 1 on, that holds each place of so many values.
@@ -189,26 +197,23 @@ fn append_places(
 }
 
 impl Dictionary {
-    ghost use Rattle.parquet_pages.specs.Places.{dictionary_of};
     ghost use Rattle.parquet_pages.specs.Written.{dictionary_text, index_text};
 
     /// The dictionary of a chunk's values: the distinct ones that aren't null, in order of first appearance. `None`
     /// where the kind is `Boolean`, or twice the number of distinct values exceeds the number of values that aren't
     /// null.
-    #[tactic(auto, unfolding(crate::specs::Places::dictionary_of))]
-    pub fn of(
-        alloc: Global,
-        kind: Kind,
-        values: &[Datum],
-    ) -> Result<Option<Dictionary>, NoMemory>
+    pub fn of(alloc: Global, kind: Kind, values: &[Datum]) -> Result<Option<Dictionary>, NoMemory>
         requires few { length values.now ≤ most_values }
         requires stand { All (written.CanStand kind true) values.now }
-        ensures { IfOk result (λ d. d ≡ dictionary_of kind values.now) }
+        ensures dictionary { IfOk result (λ d. d ≡ spec.dictionary_of kind values.now) }
+
+        // What `page` and `indices` ask.
+        ensures stand { IfOk result (λ found. IfSome found (λ d. All (written.CanStand kind false) d)) }
+        ensures placed { IfOk result (λ found. IfSome found (λ d. (optional : Bool) → All (written.CanStand kind optional) values.now
+            → All (λ v. spec.can_place d optional v ≡ true) values.now)) }
     {
-        if kind == Kind::Boolean {
-            return Ok(None);
-        }
-        distinct(alloc, values, present(values) / 2)
+        let found = dictionary_of(alloc, kind, values)?;
+        Ok(found)
     }
 
     /// The body of the dictionary page: the values in the PLAIN encoding, which the page's head names as 0 (Parquet
@@ -237,7 +242,13 @@ impl Dictionary {
         requires placed { All (λ v. spec.can_place self.now optional v ≡ true) values.now }
         ensures { IfOk result (λ v. v.items ≡ index_text optional self.now values.now) }
     {
-        let places = places_of(alloc, self.values.as_slice(), &self.places, optional, values)?;
+        let places = places_of(
+            alloc,
+            self.values.as_slice(),
+            &self.places,
+            optional,
+            values,
+        )?;
         let mut out = Vec::new(alloc);
         append_levels(alloc, optional, values, &mut out)?;
         append_places(alloc, self.values.len(), places.as_slice(), &mut out)?;

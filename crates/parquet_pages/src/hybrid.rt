@@ -63,11 +63,7 @@ pub(crate) fn hybrid_text(alloc: Global, width: u8, values: &[u32]) -> Result<Ve
 }
 
 /// Appends bits in the fewest bytes, the lowest bit of each byte first.
-pub(crate) fn append_bits(
-    alloc: Global,
-    bits: &[u32],
-    out: &mut Vec<u8>,
-) -> Result<(), NoMemory>
+pub(crate) fn append_bits(alloc: Global, bits: &[u32], out: &mut Vec<u8>) -> Result<(), NoMemory>
     requires few { length bits.now ≤ most_values }
     requires fit { EachIndex bits.now (λ k. slice_index bits.now k < 2 ^ 1) }
     ensures { OnOk result (out.new.items ≡ out.old.items ++ written.bits_text bits.now) }

@@ -11,7 +11,7 @@ mod places;
 mod plain;
 
 pub use dictionary::Dictionary;
-pub use laws::{dictionaries_pay, pages_are_read, pages_read_back};
+pub use laws::{dictionaries_pay, nulls_are_found, pages_are_read, pages_read_back};
 pub use pages::{page_has_null, read_dictionary, read_page, write_page};
 
 #[cfg(test)]

@@ -8,11 +8,9 @@ ghost use Rattle.parquet_pages.specs.Gives.{Fails, Gives};
 ghost use Rattle.parquet_pages.specs.Pages as spec;
 ghost use Rattle.parquet_pages.specs.Written as written;
 
-
 use crate::fault::BodyFault;
 use crate::levels::{append_levels, has_null, levels, spread, there};
 use crate::places::indexed_values;
-
 use crate::plain::{append_values, plain_values};
 use bit_pack::MOST_VALUES;
 use parquet_meta::{DataPageHead, DictionaryPageHead, FileFault, PageAt};
@@ -21,12 +19,16 @@ use std::alloc::Global;
 
 /// The types of pages that are read (parquet.thrift, `PageType`).
 const DATA_PAGE: i32 = 0;
+
 const DICTIONARY_PAGE: i32 = 2;
 
 /// The encodings that are read (parquet.thrift, `Encoding`).
 const PLAIN: i32 = 0;
+
 const PLAIN_DICTIONARY: i32 = 2;
+
 const RLE: i32 = 3;
+
 const RLE_DICTIONARY: i32 = 8;
 
 fn is_plain(encoding: i32) -> bool
@@ -213,7 +215,15 @@ pub fn read_page(
     let Some((count, bytes)) = body_of(page, head.num_values, file) else {
         return Err(FileFault::Page { at: page.body });
     };
-    match body_values(alloc, kind, optional, head.encoding, dictionary, count, bytes) {
+    match body_values(
+        alloc,
+        kind,
+        optional,
+        head.encoding,
+        dictionary,
+        count,
+        bytes,
+    ) {
         Ok(values) => Ok(values),
         Err(fault) => Err(fault.at(page.body)),
     }

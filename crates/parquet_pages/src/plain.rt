@@ -21,6 +21,7 @@ const LEAST_SIZE: usize = 4;
 
 /// The numbers of 0001-01-01 and of 9999-12-31.
 const FIRST_DAY: i32 = -719_162;
+
 const LAST_DAY: i32 = 2_932_896;
 
 /// The first bytes, so many, and what is behind them.
@@ -94,11 +95,7 @@ fn text(alloc: Global, bytes: &[u8]) -> Result<(Datum, &[u8]), BodyFault>
 /// The value at the front, and what is behind it.
 #[tactic(auto, unfolding(crate::specs::Plain::plain_value))]
 #[inline]
-fn plain_value(
-    alloc: Global,
-    kind: Kind,
-    bytes: &[u8],
-) -> Result<(Datum, &[u8]), BodyFault>
+fn plain_value(alloc: Global, kind: Kind, bytes: &[u8]) -> Result<(Datum, &[u8]), BodyFault>
     ensures { MatchResult result (λ v. spec.plain_value kind bytes.now ≡ Some (v.0, v.1.now)) (λ e. Fails e (spec.plain_value kind bytes.now)) }
 {
     match kind {

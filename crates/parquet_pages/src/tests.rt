@@ -1,51 +1,85 @@
+//! Bodies of pages from outside: written by hand after the format, and damaged ones.
+
+ghost use Rattle.std.specs.Prelude.{◌≤◌, length, true};
+ghost use Rattle.std.specs.List.{All};
+ghost use Rattle.bit_pack.specs.Bits.{most_values};
+ghost use Rattle.parquet_pages.specs.Written.{CanStand};
+
 use crate::{Dictionary, page_has_null, read_dictionary, read_page, write_page};
 use parquet_meta::{DataPageHead, DictionaryPageHead, FileFault, PageAt, PageHead};
-use row_base::{Datum, Kind, Text};
-use std::process::Abort;
+use row_base::{Datum, Kind, NoMemory, Text};
+use std::alloc::Global;
 use std::test::Fail;
 
-/// A data page whose body is all of a file.
-fn data_page(encoding: i32, values: i32, file: &[u8]) -> PageAt {
-    let size = file.len().min(1000) as i32;
-    let head = DataPageHead {
-        num_values: values,
+fn head(page_type: i32, size: i32) -> PageHead {
+    PageHead {
+        page_type,
+        uncompressed_page_size: None,
+        compressed_page_size: size,
+        data_page: None,
+        dictionary_page: None,
+        data_page_v2: false,
+    }
+}
+
+/// A data page whose body is a file's first bytes, so many.
+fn data_page(encoding: i32, num_values: i32, size: i32) -> PageAt {
+    let mut head = head(0, size);
+    head.data_page = Some(DataPageHead {
+        num_values,
         encoding,
         definition_level_encoding: 3,
         repetition_level_encoding: 3,
-    };
-    PageAt {
-        head: PageHead {
-            page_type: 0,
-            uncompressed_page_size: Some(size),
-            compressed_page_size: size,
-            data_page: Some(head),
-            dictionary_page: None,
-            data_page_v2: false,
-        },
-        body: 0,
-    }
+    });
+    PageAt { head, body: 0 }
 }
 
-/// A dictionary page whose body is all of a file.
-fn dictionary_page(encoding: i32, values: i32, file: &[u8]) -> PageAt {
-    let size = file.len().min(1000) as i32;
-    let head = DictionaryPageHead {
-        num_values: values,
+/// A dictionary page whose body is a file's first bytes, so many.
+fn dictionary_page(encoding: i32, num_values: i32, size: i32) -> PageAt {
+    let mut head = head(2, size);
+    head.dictionary_page = Some(DictionaryPageHead {
+        num_values,
         encoding,
-    };
-    PageAt {
-        head: PageHead {
-            page_type: 2,
-            uncompressed_page_size: Some(size),
-            compressed_page_size: size,
-            data_page: None,
-            dictionary_page: Some(head),
-            data_page_v2: false,
-        },
-        body: 0,
+    });
+    PageAt { head, body: 0 }
+}
+
+/// Whether a page's values are these.
+fn reads(
+    alloc: Global,
+    kind: Kind,
+    optional: bool,
+    page: &PageAt,
+    file: &[u8],
+    dictionary: Option<&[Datum]>,
+    values: &[Datum],
+) -> bool {
+    match read_page(alloc, kind, optional, page, file, dictionary) {
+        Ok(read) => read.as_slice() == values,
+        Err(_) => false,
     }
 }
 
+/// Whether reading a page ends with this fault.
+fn fails(
+    alloc: Global,
+    kind: Kind,
+    optional: bool,
+    page: &PageAt,
+    file: &[u8],
+    fault: &FileFault,
+) -> bool {
+    match read_page(alloc, kind, optional, page, file, None) {
+        Ok(_) => false,
+        Err(found) => found == *fault,
+    }
+}
+
+fn text(alloc: Global, text: &str) -> Result<Datum, NoMemory> {
+    Ok(Datum::Text(Text::make(alloc, text)?))
+}
+
+/// One and null in a column of longs that may be null.
 const ONE_AND_NULL: [u8; 14] = [2, 0, 0, 0, 3, 1, 1, 0, 0, 0, 0, 0, 0, 0];
 
 #[test]
@@ -53,10 +87,267 @@ fn a_page_with_null(rt: HostRuntime) -> Result<(), Fail> {
     let alloc = rt.alloc();
     let values = [Datum::Long(1), Datum::Null];
     let written = write_page(alloc, Kind::Long, true, &values)?;
-    assert_eq!(rt; written.as_slice(), ONE_AND_NULL.as_slice());
-    let page = data_page(0, 2, &ONE_AND_NULL);
-    let read = read_page(alloc, Kind::Long, true, &page, &ONE_AND_NULL, None)?;
-    assert!(rt; read.as_slice() == values.as_slice());
-    assert!(rt; page_has_null(alloc, true, &page, &ONE_AND_NULL)?);
+    assert!(rt; written.as_slice() == ONE_AND_NULL.as_slice());
+    let page = data_page(0, 2, 14);
+    assert!(rt; reads(alloc, Kind::Long, true, &page, &ONE_AND_NULL, None, &values));
+    assert!(rt; matches!(page_has_null(alloc, true, &page, &ONE_AND_NULL), Ok(true)));
+    Ok(())
+}
+
+#[test]
+fn pages_of_each_kind(rt: HostRuntime) -> Result<(), Fail> {
+    let alloc = rt.alloc();
+    let integers = [Datum::Integer(-1)];
+    assert!(rt;
+        reads(
+            alloc,
+            Kind::Integer,
+            false,
+            &data_page(0, 1, 4),
+            &[255; 4],
+            None,
+            &integers
+        )
+    );
+    let days = [Datum::Date(19_782)];
+    assert!(rt;
+        reads(
+            alloc,
+            Kind::Date,
+            false,
+            &data_page(0, 1, 4),
+            &[0x46, 0x4d, 0, 0],
+            None,
+            &days
+        )
+    );
+    let flags = [
+        Datum::Boolean(true),
+        Datum::Boolean(false),
+        Datum::Boolean(true),
+    ];
+    assert!(rt;
+        reads(
+            alloc,
+            Kind::Boolean,
+            false,
+            &data_page(0, 3, 1),
+            &[5],
+            None,
+            &flags
+        )
+    );
+    let texts = [text(alloc, "ab")?, text(alloc, "")?];
+    let file = [2, 0, 0, 0, b'a', b'b', 0, 0, 0, 0];
+    assert!(rt;
+        reads(
+            alloc,
+            Kind::String,
+            false,
+            &data_page(0, 2, 10),
+            &file,
+            None,
+            &texts
+        )
+    );
+    Ok(())
+}
+
+/// The bodies of the dictionary page and of the data page of a chunk's values, where they have a dictionary.
+fn bodies(
+    alloc: Global,
+    optional: bool,
+    values: &[Datum],
+) -> Result<Option<(Vec<u8>, Vec<u8>)>, NoMemory>
+    requires few { length values.now ≤ most_values }
+    requires stand { All (CanStand Kind.Long optional) values.now }
+    requires with_null { All (CanStand Kind.Long true) values.now }
+{
+    let Some(dictionary) = Dictionary::of(alloc, Kind::Long, values)? else {
+        return Ok(None);
+    };
+    let page = dictionary.page(alloc, Kind::Long)?;
+    let indices = dictionary.indices(alloc, optional, values)?;
+    Ok(Some((page, indices)))
+}
+
+/// Whether the bodies of two pages are these.
+fn are(bodies: &Option<(Vec<u8>, Vec<u8>)>, page: &[u8], indices: &[u8]) -> bool {
+    match bodies {
+        Some((first, second)) => first.as_slice() == page && second.as_slice() == indices,
+        None => false,
+    }
+}
+
+/// Whether a dictionary page's values are these.
+fn holds(alloc: Global, page: &PageAt, file: &[u8], values: &[Datum]) -> bool {
+    match read_dictionary(alloc, Kind::Long, page, file) {
+        Ok(read) => read.as_slice() == values,
+        Err(_) => false,
+    }
+}
+
+#[test]
+fn a_dictionary_of_one_value(rt: HostRuntime) -> Result<(), Fail> {
+    let alloc = rt.alloc();
+    let twice = [Datum::Long(5), Datum::Long(5)];
+    let written = bodies(alloc, false, &twice)?;
+    assert!(rt; are(&written, &[5, 0, 0, 0, 0, 0, 0, 0], &[1, 4, 0]));
+    let known = [Datum::Long(5)];
+    assert!(rt;
+        holds(
+            alloc,
+            &dictionary_page(0, 1, 8),
+            &[5, 0, 0, 0, 0, 0, 0, 0],
+            &known
+        )
+    );
+    let page = data_page(8, 2, 3);
+    assert!(rt;
+        reads(
+            alloc,
+            Kind::Long,
+            false,
+            &page,
+            &[1, 4, 0],
+            Some(&known),
+            &twice
+        )
+    );
+    Ok(())
+}
+
+#[test]
+fn dictionaries_that_pay(rt: HostRuntime) -> Result<(), Fail> {
+    let alloc = rt.alloc();
+    let apart = [Datum::Long(1), Datum::Long(2), Datum::Long(1)];
+    assert!(rt; bodies(alloc, false, &apart)?.is_none());
+    let with_null = [Datum::Long(1), Datum::Long(1), Datum::Null];
+    let written = bodies(alloc, true, &with_null)?;
+    assert!(rt;
+        are(
+            &written,
+            &[1, 0, 0, 0, 0, 0, 0, 0],
+            &[2, 0, 0, 0, 3, 3, 1, 4, 0]
+        )
+    );
+    let nulls = [Datum::Null, Datum::Null];
+    let written = bodies(alloc, true, &nulls)?;
+    assert!(rt; are(&written, &[], &[2, 0, 0, 0, 4, 0, 1]));
+    let page = data_page(8, 2, 7);
+    assert!(rt;
+        reads(
+            alloc,
+            Kind::Long,
+            true,
+            &page,
+            &[2, 0, 0, 0, 4, 0, 1],
+            Some(&[]),
+            &nulls
+        )
+    );
+    Ok(())
+}
+
+#[test]
+fn faults(rt: HostRuntime) -> Result<(), Fail> {
+    let alloc = rt.alloc();
+    let file = [0, 0, 0, 0, 255, 255, 255, 127];
+    let kind = PageAt {
+        head: head(3, 8),
+        body: 0,
+    };
+    assert!(rt;
+        fails(
+            alloc,
+            Kind::Integer,
+            false,
+            &kind,
+            &file,
+            &FileFault::PageKind { kind: 3 }
+        )
+    );
+    let encoded = data_page(4, 1, 8);
+    assert!(rt;
+        fails(
+            alloc,
+            Kind::Integer,
+            false,
+            &encoded,
+            &file,
+            &FileFault::Encoding { encoding: 4 }
+        )
+    );
+    let damaged = FileFault::Page { at: 0 };
+    assert!(rt;
+        fails(
+            alloc,
+            Kind::Integer,
+            false,
+            &data_page(0, 1, 9),
+            &file,
+            &damaged
+        )
+    );
+    assert!(rt;
+        fails(
+            alloc,
+            Kind::Integer,
+            false,
+            &data_page(0, 3, 8),
+            &file,
+            &damaged
+        )
+    );
+    assert!(rt;
+        fails(
+            alloc,
+            Kind::Integer,
+            true,
+            &data_page(0, 1, 8),
+            &file,
+            &damaged
+        )
+    );
+    assert!(rt;
+        fails(
+            alloc,
+            Kind::Integer,
+            false,
+            &data_page(8, 1, 8),
+            &file,
+            &damaged
+        )
+    );
+    assert!(rt;
+        fails(
+            alloc,
+            Kind::Date,
+            false,
+            &data_page(0, 2, 8),
+            &file,
+            &damaged
+        )
+    );
+    assert!(rt;
+        fails(
+            alloc,
+            Kind::String,
+            false,
+            &data_page(0, 1, 5),
+            &[1, 0, 0, 0, 255],
+            &damaged
+        )
+    );
+    let page = data_page(8, 1, 3);
+    let place = read_page(
+        alloc,
+        Kind::Long,
+        false,
+        &page,
+        &[1, 2, 1],
+        Some(&[Datum::Long(5)]),
+    );
+    assert!(rt; matches!(place, Err(FileFault::Page { at: 0 })));
     Ok(())
 }
