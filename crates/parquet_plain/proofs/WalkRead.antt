@@ -18,7 +18,7 @@ use Rattle.parquet_plain.specs.declared.pages.Walk.{Walk}
 use Rattle.parquet_plain.specs.declared.source.Leaf.{Leaf}
 use Rattle.parquet_plain.specs.Reading.{page_end, count_in, dictionary_checked, nulls_checked, with_dictionary, with_values, with_data, with_page, with_pages, walk_from, finished, chunk_values}
 use Rattle.parquet_plain.specs.Grammar.{HeadStands, NullsMayStand, DataPages, done, next, ChunkPages, plain, indexed}
-use Rattle.parquet_plain.proofs.HeadsRead.{head_found, head_only}
+use Rattle.parquet_plain.proofs.HeadsRead.{head_found, head_only, past}
 use Rattle.parquet_plain.proofs.PageFacts.{There, AreThere, page_count, nulls_found, nulls_only, plain_there}
 use Rattle.parquet_plain.proofs.PageLemmas.{pages_end}
 use Rattle.parquet_plain.proofs.Steps.{bind_ok, bind_at, if_ok, unless_ok, if_at, unless_at, ok_inside, not_false, false_not, not_is_true, true_not}
@@ -117,20 +117,20 @@ step_walked l span file page w middle after stands s walked = record {
 walked : (l : Leaf) (rows : ℕ) (span : Span) (file : List ℕ) (most : ℕ) (w after : Walk) → AreThere w.dictionary → span.begins < w.at → w.at ≤ span.ends
     → with_pages l rows span file most w ≡ Ok after → Walked l span file w after
 unfolding with_pages
-walked l rows span file zero w after known past within e = nothing_walked l span file w after within (ok_inside w after e)
-walked l rows span file (suc most) w after known past within e = by (nat_lt w.at span.ends) (λ x. walked l rows span file most x after) e
+walked l rows span file zero w after known further within e = nothing_walked l span file w after within (ok_inside w after e)
+walked l rows span file (suc most) w after known further within e = by (nat_lt w.at span.ends) (λ x. walked l rows span file most x after) e
   where
     by : (b : Bool) → ((x : Walk) → AreThere x.dictionary → span.begins < x.at → x.at ≤ span.ends → with_pages l rows span file most x ≡ Ok after → Walked l span file x after)
         → (if b then (with_page l rows span file w >>= with_pages l rows span file most) else Ok w) ≡ Ok after → Walked l span file w after
     by false others h = nothing_walked l span file w after within (ok_inside w after h)
     by true others h =
         let p = bind_ok (with_page l rows span file w) (with_pages l rows span file most) after h in
-        let s = page_stepped l rows span file w p.0 known past p.1 in
+        let s = page_stepped l rows span file w p.0 known further p.1 in
         let stands = head_only file w.at s.0 s.1 in
         let there : AreThere p.0.dictionary = subst (λ (x : Walk). AreThere x.dictionary) (sym s.2.is) known in
         let at : p.0.at ≡ page_end s.0 = ap (λ (x : Walk). x.at) s.2.is in
         step_walked l span file s.0 w p.0 after stands s.2
-        (others p.0 there (omega (arith, at, stands.1)) (omega (arith, at, s.2.within)) p.2)
+        (others p.0 there (omega (arith, at, past stands)) (omega (arith, at, s.2.within)) p.2)
 
 -- ---- chunks that were read stand there
 
@@ -191,14 +191,14 @@ chunk_walked l rows span file (suc most) after values m within e f = by (nat_lt 
         let o = opened l span file page (walk_from span.begins) middle h in
         let dictionary = dictionary_page_only l.kind page file o.ds o.read in
         let further : Walk = record { at = page_end page; values = []; dictionary = Some o.ds } in
-        let w = walked l rows span file most further after (plain_there l.kind dictionary.bytes o.ds dictionary.body) (omega (arith, stands.1)) o.within
+        let w = walked l rows span file most further after (plain_there l.kind dictionary.bytes o.ds dictionary.body) (omega (arith, past stands)) o.within
                 (ap (with_pages l rows span file most) (sym o.is) ∙ rest) in
         let p = filled l rows span file further after values refl w f in
         record { pages = indexed page o.ds stands dictionary p.0; count = p.1 }
     first page middle stands false h rest =
         let s = data_stepped l rows span file page (walk_from span.begins) middle tt h in
         let further : Walk = behind page (walk_from span.begins) s.vs in
-        let w = walked l rows span file most further after tt (omega (arith, stands.1)) s.within (ap (with_pages l rows span file most) (sym s.is) ∙ rest) in
+        let w = walked l rows span file most further after tt (omega (arith, past stands)) s.within (ap (with_pages l rows span file most) (sym s.is) ∙ rest) in
         let all = step_walked l span file page (walk_from span.begins) middle after stands s (subst (λ (x : Walk). Walked l span file x after) (sym s.is) w) in
         let p = filled l rows span file (walk_from span.begins) after values refl all f in
         record { pages = plain p.0; count = p.1 }
@@ -224,7 +224,7 @@ chunk_found l rows span file values within e =
 
 pages_order : {l : Leaf} {file : List ℕ} {d : Option (List Datum)} {at end : ℕ} {values : List Datum} → DataPages l file d at end values → at ≤ end
 pages_order (done e none) = omega (arith, e)
-pages_order (next page vs more stands holds nulls others e) = let o = pages_order others in omega (arith, o, stands.1)
+pages_order (next page vs more stands holds nulls others e) = let o = pages_order others in omega (arith, o, past stands)
 
 checked_by : (l : Leaf) (page : PageAt) (file : List ℕ) (d : Option (List Datum)) (vs : List Datum) (o n : Bool) → l.optional ≡ o → l.nullable ≡ n → NullsMayStand l vs
     → page_values l.kind l.optional page file d ≡ Ok vs
@@ -282,12 +282,12 @@ pages_read {l} {file} {d} {at} {end} {values} (next page vs more stands holds ma
     by : (most : ℕ) → end - at ≤ most
         → ((n : ℕ) → end - page_end page ≤ n → with_pages l rows span file n (behind page start vs) ≡ Ok (record { at = end; values = (before ++ vs) ++ more; dictionary = d }))
         → with_pages l rows span file most start ≡ Ok (record { at = end; values = before ++ values; dictionary = d })
-    by zero enough further = absurd (omega (arith, order, stands.1))
+    by zero enough further = absurd (omega (arith, order, past stands))
     by (suc most) enough further =
-        read_more l rows span file most start (omega (arith, order, stands.1, is))
+        read_more l rows span file most start (omega (arith, order, past stands, is))
         ∙ bind_at (with_page l rows span file start) (with_pages l rows span file most) (behind page start vs)
           (data_read l rows span file page start vs stands holds may (omega (arith, few, sum)) (omega (arith, order, is)))
-        ∙ further most (omega (arith, enough, stands.1))
+        ∙ further most (omega (arith, enough, past stands))
         ∙ ap (λ x. Ok (record { at = end; values = x; dictionary = d })) (append_assoc before vs more ∙ ap (λ x. before ++ x) (sym e))
 
 finished_at : (l : Leaf) (rows : ℕ) (span : Span) (d : Option (List Datum)) (values : List Datum) → length values ≡ rows
@@ -336,9 +336,9 @@ chunk_only l rows span file values (indexed page ds stands holds pages) e =
     order : page_end page ≤ span.ends
     order = pages_order pages
     by : (most : ℕ) → span.ends - span.begins ≤ most → with_pages l rows span file most (walk_from span.begins) ≡ Ok (record { at = span.ends; values = values; dictionary = Some ds })
-    by zero enough = absurd (omega (arith, order, stands.1))
+    by zero enough = absurd (omega (arith, order, past stands))
     by (suc most) enough =
-        read_more l rows span file most (walk_from span.begins) (omega (arith, order, stands.1))
+        read_more l rows span file most (walk_from span.begins) (omega (arith, order, past stands))
         ∙ bind_at (with_page l rows span file (walk_from span.begins)) (with_pages l rows span file most) (record { at = page_end page; values = []; dictionary = Some ds })
           (dictionary_read l rows span file page ds stands holds order)
-        ∙ pages_read pages rows span most [] refl (omega (arith, e)) (omega (arith, enough, stands.1))
+        ∙ pages_read pages rows span most [] refl (omega (arith, e)) (omega (arith, enough, past stands))

@@ -4,14 +4,14 @@ use Rattle.std.specs.Prelude.{◌≡◌, ◌↔◌, ℕ, ◌+◌, ◌<◌, ◌�
 use Rattle.std.specs.List.{All, find, list_any}
 use Rattle.row_base.specs.declared.row.Datum.{Datum}
 use Rattle.row_base.specs.Schema.{TableSchema}
+use Rattle.thrift_compact.specs.Laws.{Stands}
 use Rattle.parquet_meta.specs.declared.head.PageAt.{PageAt}
 use Rattle.parquet_meta.specs.declared.meta.ColumnChunk.{ColumnChunk}
 use Rattle.parquet_meta.specs.declared.meta.ColumnMetaData.{ColumnMetaData}
 use Rattle.parquet_meta.specs.declared.meta.FileMeta.{FileMeta}
 use Rattle.parquet_meta.specs.declared.meta.RowGroup.{RowGroup}
 use Rattle.parquet_meta.specs.declared.meta.SchemaElement.{SchemaElement}
-use Rattle.parquet_meta.specs.Footer.{footer_of}
-use Rattle.parquet_meta.specs.Heads.{page_head_at}
+use Rattle.parquet_meta.specs.Grammar.{IsFile, SpellsHead}
 use Rattle.parquet_pages.specs.Places.{is_null}
 use Rattle.parquet_pages.specs.Grammar.{DataPage, DictionaryPage}
 use Rattle.parquet_plain.specs.declared.source.Leaf.{Leaf}
@@ -20,14 +20,11 @@ use Rattle.parquet_plain.specs.declared.source.Source.TheVariants as source
 use Rattle.parquet_plain.specs.Tree.{physical_of, has_numbers_in_range, is_group, is_flat, is_other_type, children_of, sources_from}
 use Rattle.parquet_plain.specs.Reading.{is_chunk_of, has_natural_numbers, first_byte, page_end, side_by_side, most_rows, file_rows}
 
--- ---- the parts that the footer and the heads of pages are
-
-abbrev pub IsFile : List ℕ → FileMeta → Type 0
-IsFile file meta = footer_of file ≡ Ok meta
-
--- the head of a page stands at this place, and its body behind it
-abbrev pub HeadStands : List ℕ → ℕ → PageAt → Type 0
-HeadStands file at page = (page_head_at file at ≡ Ok page) × (at < page.body)
+-- the head of a page stands at this place, and the page's body behind it
+pub record HeadStands (file : List ℕ) (at : ℕ) (page : PageAt) : Type 0 where
+  pub text : List ℕ
+  pub spelled : SpellsHead text page.head
+  pub stands : Stands file at text page.body
 
 -- ---- the schema: a root and its leaves
 

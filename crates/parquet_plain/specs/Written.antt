@@ -1,5 +1,6 @@
 -- The bytes of a file that is written (README.md, "File format"; parquet.thrift).
-use Rattle.std.specs.Prelude.{ℕ, zero, suc, ◌+◌, ◌/◌, ◌≡◌, ◌%◌, Bool, true, false, if◌then◌else◌, List, [], ◌∷◌, ◌++◌, map, length, take, drop, codes, slice_index_or, Option, Some, None, ℤ, pos}
+use Rattle.std.specs.Prelude.{ℕ, zero, suc, ◌≡◌, ◌+◌, ◌%◌, ◌^◌, Bool, true, false, if◌then◌else◌, List, [], ◌∷◌, ◌++◌, map, length, take, drop, codes, slice_index_or, Option, Some, None, ℤ, pos}
+use Rattle.std.specs.Int.{w32, to_le_bytes}
 use Rattle.std.specs.List.{All}
 use Rattle.row_base.specs.declared.row.Datum.{Datum}
 use Rattle.row_base.specs.declared.row.Datum.TheVariants as datum
@@ -236,7 +237,7 @@ meta_of s rows = record {
 
 -- the low 32 bits of a number, the lowest byte first
 abbrev pub length_bytes : ℕ → List ℕ
-length_bytes n = n % 256 ∷ n / 256 % 256 ∷ n / 65536 % 256 ∷ n / 16777216 % 256 ∷ []
+length_bytes n = to_le_bytes w32 (n % 2 ^ 32)
 
 -- metadata, its length and the magic
 abbrev pub ended : List ℕ → List ℕ

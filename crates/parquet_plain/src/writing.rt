@@ -18,12 +18,7 @@ const MAGIC: &[u8] = b"PAR1";
 fn length_bytes(number: usize) -> [u8; 4]
     ensures { result ≡ spec.length_bytes number }
 {
-    [
-        (number % 256) as u8,
-        (number / 256 % 256) as u8,
-        (number / 65_536 % 256) as u8,
-        (number / 16_777_216 % 256) as u8,
-    ]
+    ((number % 4_294_967_296) as u32).to_le_bytes()
 }
 
 /// The footer, its length and the magic.

@@ -8,10 +8,10 @@ of-requires-clause-stand c = all_may_stand c.args.column.now.kind c.args.column.
 
 pub append_by-requires-clause-placed : goal.append_by-requires-clause-placed
 append_by-requires-clause-placed c =
-    subst (λ o. AreIn o c.args.column.now.nullable c.args.values.now) (sym c.in_ok-dictionary.ensures)
+    subst (λ o. AreIn o c.args.column.now.nullable c.args.values.now) (sym c.in_ok-dictionary.ensures.dictionary)
     (values_placed c.args.column.now.kind c.args.column.now.nullable c.args.values.now c.requires.stand)
 
 pub append_by-requires-clause-front : goal.append_by-requires-clause-front
 append_by-requires-clause-front c =
-    subst (DictionaryStands c.args.column.now.kind) (sym c.in_ok-dictionary.ensures)
+    subst (DictionaryStands c.args.column.now.kind) (sym c.in_ok-dictionary.ensures.dictionary)
     (dictionary_stands c.args.column.now.kind c.args.values.now (all_may_stand c.args.column.now.kind c.args.column.now.nullable c.args.values.now c.requires.stand))
