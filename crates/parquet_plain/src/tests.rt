@@ -1,13 +1,12 @@
 //! Files written by hand after the format, written ones, and damaged ones.
 
-ghost use Rattle.std.specs.Prelude.{◌≡◌, true};
+ghost use Rattle.std.specs.Prelude.{◌≡◌, ◌≤ℤ◌, pos, true};
 ghost use Rattle.std.specs.List.{All};
 ghost use Rattle.row_base.specs.Schema.{FitsSchema};
 
 use crate::{read_file, write_file};
 use parquet_meta::{
-    ColumnChunk, ColumnMetaData, DataPageHead, DictionaryPageHead, FileFault, FileMeta, Items,
-    PageHead, RowGroup, SchemaElement, write_footer, write_page_head,
+    ColumnChunk, ColumnMetaData, FileFault, FileMeta, Items, RowGroup, SchemaElement, write_footer,
 };
 use row_base::{Column, Datum, Kind, NoMemory, Row, Schema, Text, Texts};
 use std::alloc::Global;
@@ -125,7 +124,7 @@ fn a_row_is_written_and_read(rt: HostRuntime) -> Result<(), Fail> {
     let alloc = rt.alloc();
     let schema = id_schema(alloc)?;
     let rows = long_rows(alloc, &[1])?;
-    assert_eq!(rt; written(alloc, &schema, &rows)?.as_slice(), &FILE);
+    assert_eq!(rt; written(alloc, &schema, &rows)?.as_slice(), FILE.as_slice());
     assert!(rt; reads(alloc, &schema, &FILE, &rows));
     Ok(())
 }
@@ -136,7 +135,7 @@ fn repeated_values_have_a_dictionary(rt: HostRuntime) -> Result<(), Fail> {
     let schema = id_schema(alloc)?;
     let rows = long_rows(alloc, &[5, 5])?;
     let file = written(alloc, &schema, &rows)?;
-    assert!(rt; file.as_slice().get(4..45) == Some(&FIVES));
+    assert!(rt; file.as_slice().get(4..45) == Some(FIVES.as_slice()));
     assert!(rt; reads(alloc, &schema, &file, &rows));
     Ok(())
 }
@@ -188,5 +187,142 @@ fn many_rows_have_two_groups(rt: HostRuntime) -> Result<(), Fail> {
     let file = written(alloc, &schema, &rows)?;
     assert_eq!(rt; parquet_meta::read_footer(alloc, &file)?.row_groups.as_slice().len(), 2);
     assert!(rt; reads(alloc, &schema, &file, &rows));
+    Ok(())
+}
+
+/// An element of a file's schema.
+fn element(
+    alloc: Global,
+    name: &str,
+    physical_type: Option<i64>,
+    num_children: Option<i64>,
+) -> Result<SchemaElement, NoMemory> {
+    Ok(SchemaElement {
+        physical_type,
+        repetition_type: None,
+        name: Text::make(alloc, name)?,
+        num_children,
+        converted_type: None,
+    })
+}
+
+/// What the footer says of a chunk of 41 bytes and two values that begins with a dictionary page at this place.
+fn chunk(
+    alloc: Global,
+    name: &str,
+    physical_type: i64,
+    codec: i64,
+    at: i64,
+) -> Result<ColumnChunk, NoMemory>
+    requires { at ≤ℤ pos 1000 }
+{
+    Ok(ColumnChunk {
+        file_path: None,
+        file_offset: None,
+        meta_data: ColumnMetaData {
+            physical_type,
+            encodings: None,
+            path_in_schema: Texts::make(vec![in alloc; Text::make(alloc, name)?]?),
+            codec,
+            num_values: 2,
+            total_uncompressed_size: None,
+            total_compressed_size: 41,
+            data_page_offset: at + 21,
+            dictionary_page_offset: Some(at),
+        },
+    })
+}
+
+/// A group of two rows with a chunk of the column `w` that can't be read, and one of `id` at this place.
+fn group(alloc: Global, at: i64) -> Result<RowGroup, NoMemory>
+    requires { at ≤ℤ pos 1000 }
+{
+    let other = chunk(alloc, "w", 1, 5, 1000)?;
+    let held = chunk(alloc, "id", 2, 0, at)?;
+    Ok(RowGroup {
+        columns: Items::make(vec![in alloc; other, held]?),
+        total_byte_size: None,
+        num_rows: 2,
+    })
+}
+
+/// The footer of a file of two groups with the columns `w` and `id`.
+fn foreign_footer(alloc: Global) -> Result<Vec<u8>, NoMemory> {
+    let root = element(alloc, "root", None, Some(2))?;
+    let other = element(alloc, "w", Some(1), None)?;
+    let held = element(alloc, "id", Some(2), None)?;
+    let meta = FileMeta {
+        version: None,
+        schema: Items::make(vec![in alloc; root, other, held]?),
+        num_rows: 0,
+        row_groups: Items::make(vec![in alloc; group(alloc, 4)?, group(alloc, 45)?]?),
+    };
+    write_footer(alloc, &meta)
+}
+
+/// A file of two groups, whose chunks of `id` have dictionaries of one value each; the first one's data page has the
+/// encoding 2.
+fn foreign_file(alloc: Global, first: u8, second: u8) -> Result<Vec<u8>, NoMemory> {
+    let mut chunks = [FIVES, FIVES];
+    chunks[0][13] = first;
+    chunks[0][31] = 0x04;
+    chunks[1][13] = second;
+    let footer = foreign_footer(alloc)?;
+    let mut file = Vec::new(alloc);
+    file.extend_from_slice(b"PAR1")?;
+    file.extend_from_slice(&chunks[0])?;
+    file.extend_from_slice(&chunks[1])?;
+    file.extend_from_slice(&footer)?;
+    file.extend_from_slice(&((footer.len() % 1000) as u32).to_le_bytes())?;
+    file.extend_from_slice(b"PAR1")?;
+    Ok(file)
+}
+
+/// Rows of a null and a long each.
+fn null_rows(alloc: Global, numbers: &[i64]) -> Result<Vec<Row>, NoMemory> {
+    let mut rows = Vec::new(alloc);
+    for number in numbers {
+        rows.push(Row::make(vec![in alloc; Datum::Null, Datum::Long(*number)]?))?;
+    }
+    Ok(rows)
+}
+
+#[test]
+fn foreign_files_are_read(rt: HostRuntime) -> Result<(), Fail> {
+    let alloc = rt.alloc();
+    let absent = column(alloc, "v", Kind::String, true)?;
+    let held = column(alloc, "id", Kind::Long, false)?;
+    let schema = schema_of(vec![in alloc; absent, held]?, Vec::new(alloc))?;
+    let file = foreign_file(alloc, 7, 9)?;
+    assert!(rt; reads(alloc, &schema, &file, &null_rows(alloc, &[7, 7, 9, 9])?));
+    Ok(())
+}
+
+#[test]
+fn columns_that_cannot_be_read_are_refused(rt: HostRuntime) -> Result<(), Fail> {
+    let alloc = rt.alloc();
+    let file = foreign_file(alloc, 7, 9)?;
+    let held = column(alloc, "w", Kind::Integer, false)?;
+    let coded = schema_of(vec![in alloc; held]?, Vec::new(alloc))?;
+    assert_eq!(rt; ending(alloc, &coded, &file), Outcome::Other);
+    let absent = column(alloc, "v", Kind::String, false)?;
+    let lacking = schema_of(vec![in alloc; absent]?, Vec::new(alloc))?;
+    assert_eq!(rt; ending(alloc, &lacking, &file), Outcome::Shape);
+    let other = column(alloc, "id", Kind::String, false)?;
+    let wrong = schema_of(vec![in alloc; other]?, Vec::new(alloc))?;
+    assert_eq!(rt; ending(alloc, &wrong, &file), Outcome::Other);
+    Ok(())
+}
+
+#[test]
+fn partition_columns_are_not_written(rt: HostRuntime) -> Result<(), Fail> {
+    let alloc = rt.alloc();
+    let day = column(alloc, "day", Kind::Integer, false)?;
+    let held = column(alloc, "id", Kind::Long, false)?;
+    let schema = schema_of(vec![in alloc; day, held]?, vec![in alloc; 0]?)?;
+    let rows = vec![in alloc; Row::make(vec![in alloc; Datum::Integer(3), Datum::Long(1)]?)]?;
+    let file = written(alloc, &schema, &rows)?;
+    assert_eq!(rt; file.as_slice(), FILE.as_slice());
+    assert!(rt; reads(alloc, &schema, &file, &null_rows(alloc, &[1])?));
     Ok(())
 }
