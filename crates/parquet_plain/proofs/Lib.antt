@@ -1,0 +1,11 @@
+pub mod PageLemmas
+pub mod Parts
+pub mod WriterLemmas
+pub mod Standing
+pub mod Dictionaries
+pub mod Steps
+pub mod PageFacts
+pub mod HeadsRead
+pub mod WalkRead
+pub mod GroupsRead
+pub mod FilesRead

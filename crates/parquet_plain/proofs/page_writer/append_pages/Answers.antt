@@ -1,0 +1,34 @@
+use Rattle.std.proofs.Common.{◌≡◌, ◌++◌, ◌<◌, ◌≤◌, ℕ, [], ap, sym, ◌∙◌, refl, length, min, arith, subst, drop, take}
+use Rattle.std.specs.List.{All}
+use Rattle.std.proofs.lemmas.List.Elements.{All-take, All-drop}
+use Rattle.row_base.specs.declared.row.Datum.{Datum}
+use Rattle.parquet_pages.specs.Written.{CanStand}
+use Rattle.parquet_plain.specs.Written.{pages_of, parts_of, page_values_most, AreIn}
+use Rattle.parquet_plain.proofs.Parts.{some_left, none_left}
+use Rattle.parquet_plain.proofs.WriterLemmas.{pages_step, pages_done, AreIn-take, AreIn-drop}
+use Rattle.parquet_plain.proofs.page_writer.append_pages.Goals as goal
+
+pub append_values-requires-clause-stand : goal.append_values-requires-clause-stand
+append_values-requires-clause-stand c =
+    subst (All (CanStand c.args.column.now.kind c.args.column.now.nullable)) (sym c.split_at.ensures.front)
+    (All-take (CanStand c.args.column.now.kind c.args.column.now.nullable) c.min.result c.loop-rest.rest.now c.loop-rest.invariant.stand)
+
+pub append_values-requires-clause-placed : goal.append_values-requires-clause-placed
+append_values-requires-clause-placed c =
+    subst (AreIn c.args.dictionary.now c.args.column.now.nullable) (sym c.split_at.ensures.front)
+    (AreIn-take c.args.dictionary.now c.args.column.now.nullable c.min.result c.loop-rest.rest.now c.loop-rest.invariant.placed)
+
+pub loop-rest-preserved : goal.loop-rest-preserved
+loop-rest-preserved c = record {
+  text =
+    pages_step c.args.column.now c.args.dictionary.now c.loop-rest.out.items c.append_values.new.out.items c.loop-rest.rest.now c.split_at.result.0.now c.split_at.result.1.now c.min.result
+    c.min.ensures c.split_at.ensures.front c.split_at.ensures.back (some_left c.is_empty.result c.loop-rest.rest.now c.is_empty.ensures c.loop-rest-test.true) c.in_ok-append_values.ensures
+    ∙ c.loop-rest.invariant.text;
+  stand = subst (All (CanStand c.args.column.now.kind c.args.column.now.nullable)) (sym c.split_at.ensures.back)
+    (All-drop (CanStand c.args.column.now.kind c.args.column.now.nullable) c.min.result c.loop-rest.rest.now c.loop-rest.invariant.stand);
+  placed = subst (AreIn c.args.dictionary.now c.args.column.now.nullable) (sym c.split_at.ensures.back)
+    (AreIn-drop c.args.dictionary.now c.args.column.now.nullable c.min.result c.loop-rest.rest.now c.loop-rest.invariant.placed);
+}
+
+pub returns : goal.returns
+returns c = pages_done c.args.column.now c.args.dictionary.now c.loop-rest.rest.now c.loop-rest.out.items (none_left c.is_empty.result c.loop-rest.rest.now c.is_empty.ensures c.loop-rest-test.false) ∙ c.loop-rest.invariant.text

@@ -1,0 +1,9 @@
+//! Facts about files alone, which no code computes.
+ghost use Rattle.parquet_plain.specs.Grammar.{FilesAreRead, RowsAreOne};
+
+/// What `read_file` reads as rows is exactly what the format says of a file of these rows, and a file holds one list of
+/// rows at most.
+pub fn files_are_read()
+    ensures read { FilesAreRead }
+    ensures one { RowsAreOne }
+{}

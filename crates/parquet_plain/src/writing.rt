@@ -1,0 +1,67 @@
+//! The file of rows.
+ghost use Rattle.std.specs.Prelude.{◌≡◌, ◌++◌, ◌≤◌, length, IfOk, OnOk};
+ghost use Rattle.std.specs.List.{All};
+ghost use Rattle.row_base.specs.Schema.{FitsSchema};
+ghost use Rattle.parquet_plain.specs.Written as spec;
+ghost use Rattle.parquet_meta.specs.Written.{footer_text};
+
+use crate::element_writer::elements_of;
+use crate::group_writer::append_groups;
+use parquet_meta::{FileMeta, Items, RowGroup, write_footer};
+use row_base::{NoMemory, Row, Schema};
+use std::alloc::Global;
+
+/// The first and the last bytes of a file.
+const MAGIC: &[u8] = b"PAR1";
+
+/// The low 32 bits of a number, the lowest byte first.
+fn length_bytes(number: usize) -> [u8; 4]
+    ensures { result ≡ spec.length_bytes number }
+{
+    ((number % 4_294_967_296) as u32).to_le_bytes()
+}
+
+/// The footer, its length and the magic.
+fn append_footer(alloc: Global, meta: &FileMeta, out: &mut Vec<u8>) -> Result<(), NoMemory>
+    ensures { OnOk result (out.new.items ≡ out.old.items ++ spec.ended (footer_text meta.now)) }
+{
+    let footer = write_footer(alloc, meta)?;
+    out.extend_from_slice(&footer)?;
+    out.extend_from_slice(&length_bytes(footer.len()))?;
+    out.extend_from_slice(MAGIC)?;
+    Ok(())
+}
+
+/// What the footer says of a file of these rows.
+#[tactic(auto, unfolding(crate::specs::Written::meta_of))]
+fn meta_of(
+    alloc: Global,
+    schema: &Schema,
+    rows: &[Row],
+    groups: Vec<RowGroup>,
+) -> Result<FileMeta, NoMemory>
+    requires { groups.items ≡ spec.group_entries schema.now 4 (spec.groups_of rows.now) }
+    ensures { IfOk result (λ m. m ≡ spec.meta_of schema.now rows.now) }
+{
+    Ok(FileMeta {
+        version: Some(1),
+        schema: Items::make(elements_of(alloc, schema)?),
+        num_rows: rows.len() as i64,
+        row_groups: Items::make(groups),
+    })
+}
+
+/// The Parquet file of these rows, without the partition columns.
+#[tactic(auto, unfolding(crate::specs::Written::file_text))]
+pub fn write_file(schema: &Schema, rows: &[Row], alloc: Global) -> Result<Vec<u8>, NoMemory>
+    requires few { length rows.now ≤ 16777216 }
+    requires fits { All (FitsSchema schema.now) rows.now }
+    ensures { IfOk result (λ v. v.items ≡ spec.file_text schema.now rows.now) }
+{
+    let mut out = Vec::new(alloc);
+    out.extend_from_slice(MAGIC)?;
+    let groups = append_groups(alloc, schema, rows, &mut out)?;
+    let meta = meta_of(alloc, schema, rows, groups)?;
+    append_footer(alloc, &meta, &mut out)?;
+    Ok(out)
+}
