@@ -2,6 +2,8 @@
 
 ghost use Rattle.std.specs.Prelude.{◌^◌, ◌<◌};
 
+use crate::failed::Failed;
+use crate::tables;
 use crate::words::Kernel;
 use bit_pack::{PackFault, pack, unpack};
 use std::alloc::{AllocError, Global};
@@ -9,11 +11,12 @@ use std::alloc::{AllocError, Global};
 /// How many values a kernel runs over.
 const COUNT: usize = 1 << 22;
 
-/// The checksum of so many runs of a kernel.
-pub fn run(alloc: Global, kernel: Kernel, runs: u32) -> Result<u64, PackFault> {
+/// The checksum of so many runs of a kernel, or what it made of so many rows.
+pub fn run(alloc: Global, kernel: Kernel, number: u32) -> Result<u64, Failed> {
     match kernel {
-        Kernel::Unpack(width) => run_unpack(alloc, width, runs),
-        Kernel::Pack(width) => run_pack(alloc, width, runs),
+        Kernel::Unpack(width) => Ok(run_unpack(alloc, width, number)?),
+        Kernel::Pack(width) => Ok(run_pack(alloc, width, number)?),
+        Kernel::Parquet(step, table) => tables::run(alloc, step, table, number),
     }
 }
 

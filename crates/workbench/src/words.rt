@@ -12,13 +12,41 @@ use thiserror::Error;
 /// The widest values, in bits.
 const MOST_BITS: u32 = 32;
 
-/// A kernel that is timed, for values of so many bits.
+/// How far a kernel goes with the rows of a table; each step does the ones before it too.
+#[derive(Clone, Copy, Debug, Drop, PartialEq, Eq)]
+pub enum Step {
+    /// `rows`: they are made.
+    Rows,
+    /// `write`: their file is made.
+    Write,
+    /// `copy`: the bytes of the file are copied.
+    Copy,
+    /// `read`: the file is read.
+    Read,
+}
+
+/// A table whose files are timed.
+#[derive(Clone, Copy, Debug, Drop, PartialEq, Eq)]
+pub enum Table {
+    /// `longs`: two columns of longs.
+    Longs,
+    /// `words`: a column of a hundred texts.
+    Words,
+    /// `texts`: a column of texts without repeats.
+    Texts,
+    /// `booleans`: a column of booleans and nulls.
+    Booleans,
+}
+
+/// A kernel that is timed.
 #[derive(Clone, Copy, Debug, Drop, PartialEq, Eq)]
 pub enum Kernel {
-    /// `unpack-W`
+    /// `unpack-W`, for values of W bits
     Unpack(u8),
-    /// `pack-W`
+    /// `pack-W`, for values of W bits
     Pack(u8),
+    /// `parquet-STEP-TABLE`
+    Parquet(Step, Table),
 }
 
 /// What a file is to be read as.
@@ -28,12 +56,14 @@ pub enum Format {
     Hybrid,
     /// `thrift`: a struct in the Thrift compact protocol.
     Thrift,
+    /// `parquet`: a Parquet file.
+    Parquet,
 }
 
 /// What the program is asked to do.
 #[derive(Clone, Copy, Debug, Drop, PartialEq, Eq)]
 pub enum Command {
-    /// To run a kernel so many times.
+    /// To run a kernel so many times, or for so many rows.
     Time(Kernel, u32),
     /// To read a file.
     Read(Format),
@@ -49,13 +79,13 @@ pub enum WordsFault {
     #[error("unknown command: use time or read")]
     Command,
     /// No kernel has this name.
-    #[error("unknown kernel: use unpack-W or pack-W, with a width W from 0 to 32")]
+    #[error("unknown kernel: use unpack-W, pack-W with W from 0 to 32, or parquet-STEP-TABLE")]
     Kernel,
-    /// No number of runs in decimal digits, or one of more than 32 bits.
-    #[error("the number of runs is no number from 0 to 4294967295")]
+    /// No number of runs or rows in decimal digits, or one of more than 32 bits.
+    #[error("the last word is no number from 0 to 4294967295")]
     Runs,
     /// No format has this name.
-    #[error("unknown format: use hybrid or thrift")]
+    #[error("unknown format: use hybrid, thrift or parquet")]
     Format,
 }
 
@@ -90,9 +120,58 @@ fn kernel_of(name: &str) -> Option<Kernel>
     if let Some(width) = width_after(b"unpack-", name) {
         return Some(Kernel::Unpack(width));
     }
-    match width_after(b"pack-", name) {
-        Some(width) => Some(Kernel::Pack(width)),
+    if let Some(width) = width_after(b"pack-", name) {
+        return Some(Kernel::Pack(width));
+    }
+    match after(b"parquet-", name) {
+        Some(name) => parquet_kernel(name),
         None => None,
+    }
+}
+
+/// The kernel of a step and a table.
+fn parquet_kernel(name: &[u8]) -> Option<Kernel>
+    ensures { result ≡ spec.parquet_kernel name.now }
+{
+    if let Some(table) = table_after(b"rows-", name) {
+        return Some(Kernel::Parquet(Step::Rows, table));
+    }
+    if let Some(table) = table_after(b"write-", name) {
+        return Some(Kernel::Parquet(Step::Write, table));
+    }
+    if let Some(table) = table_after(b"copy-", name) {
+        return Some(Kernel::Parquet(Step::Copy, table));
+    }
+    match table_after(b"read-", name) {
+        Some(table) => Some(Kernel::Parquet(Step::Read, table)),
+        None => None,
+    }
+}
+
+/// The table that stands behind a front.
+fn table_after(front: &[u8], name: &[u8]) -> Option<Table>
+    ensures { result ≡ option_and_then spec.table_of (spec.after front.now name.now) }
+{
+    match after(front, name) {
+        Some(name) => table_of(name),
+        None => None,
+    }
+}
+
+/// The table of a name.
+fn table_of(name: &[u8]) -> Option<Table>
+    ensures { result ≡ spec.table_of name.now }
+{
+    if name == b"longs".as_slice() {
+        Some(Table::Longs)
+    } else if name == b"words".as_slice() {
+        Some(Table::Words)
+    } else if name == b"texts".as_slice() {
+        Some(Table::Texts)
+    } else if name == b"booleans".as_slice() {
+        Some(Table::Booleans)
+    } else {
+        None
     }
 }
 
@@ -103,6 +182,7 @@ fn format_of(name: &str) -> Option<Format>
     match name {
         "hybrid" => Some(Format::Hybrid),
         "thrift" => Some(Format::Thrift),
+        "parquet" => Some(Format::Parquet),
         _ => None,
     }
 }
