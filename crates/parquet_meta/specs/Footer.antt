@@ -188,10 +188,14 @@ footer_len file = from_le_bytes w32 (take 4 (drop (length file - 8) file))
 abbrev pub footer_piece : List ℕ → ℕ → Piece
 footer_piece file len = record { bytes = take len (drop (length file - 8 - len) file); start = length file - 8 - len }
 
--- what a file's footer reads as
-unfoldable pub footer_of : List ℕ → Result FileMeta FileFault
-footer_of file =
+-- where the footer of a file is
+unfoldable pub footer_found : List ℕ → Result Piece FileFault
+footer_found file =
     if not (is_size (length file)) then Err faults.Short
     else if not (has_magic file) then Err faults.Magic
     else if nat_lt (length file) (footer_len file + 12) then Err faults.Footer
-    else (file_in (footer_piece file (footer_len file)) 0 0 >>= λ meta. Ok meta.0)
+    else Ok (footer_piece file (footer_len file))
+
+-- what a file's footer reads as
+unfoldable pub footer_of : List ℕ → Result FileMeta FileFault
+footer_of file = footer_found file >>= λ piece. file_in piece 0 0 >>= λ meta. Ok meta.0

@@ -169,5 +169,5 @@ page_head at numbers =
 unfoldable pub page_head_at : List ℕ → ℕ → Result PageAt FileFault
 page_head_at file at =
     if nat_lt (length file) at then Err (faults.Thrift (length file))
-    else (numbers_in (record { bytes = drop at file; start = at }) at 0 >>= λ numbers.
+    else (numbers_in (record { bytes = drop at file; start = at }) 0 0 >>= λ numbers.
     page_head at numbers.0 >>= λ head. Ok (record { head = head; body = at + numbers.1 }))

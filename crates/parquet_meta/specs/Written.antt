@@ -1,6 +1,6 @@
 -- What is written: fields in ascending ids, the absent ones left out, and a stop (Thrift compact protocol, "Struct";
 -- Parquet format, parquet.thrift).
-use Rattle.std.specs.Prelude.{ℕ, Bool, true, false, List, [], ◌∷◌, ◌++◌, length, ℤ, pos, Option, Some, None}
+use Rattle.std.specs.Prelude.{◌≡◌, ℕ, Bool, true, false, List, [], ◌∷◌, ◌++◌, length, ℤ, pos, Option, Some, None}
 use Rattle.thrift_compact.specs.declared.wire.Wire.{Wire}
 use Rattle.thrift_compact.specs.declared.wire.Wire.TheVariants as wires
 use Rattle.thrift_compact.specs.Writing.{number_bytes, binary_bytes, list_bytes, field_bytes}
@@ -33,6 +33,11 @@ always id wire text = Some (record { id = id; wire = wire; text = text })
 abbrev pub if_some : {A : Type 0} → ℤ → Wire → (A → List ℕ) → Option A → Option Written
 if_some id wire text (Some value) = always id wire (text value)
 if_some id wire text None = None
+
+-- A field was written behind one of the id `last`: whatever fields follow, what was there before them all, with the text
+-- of all, is what is there now, with the text of those that follow.
+pub record Writes (old : List ℕ) (last : ℤ) (new : List ℕ) (now : ℤ) (field : Option Written) : Type 0 where
+  pub follows : (others : List (Option Written)) → new ++ fields_text now others ≡ old ++ fields_text last (field ∷ others)
 
 -- the texts of elements, one behind another
 unfoldable pub texts_of : {A : Type 0} → (A → List ℕ) → List A → List ℕ

@@ -1,17 +1,17 @@
 //! Structs read field by field, and lists read element by element.
-ghost use Rattle.std.specs.Prelude.{◌≡◌, ◌≤◌, ℕ, ℤ, length, Result, Ok};
+ghost use Rattle.std.specs.Prelude.{◌≡◌, ◌≤◌, ◌++◌, ℕ, ℤ, List, length, Result, Ok, OnOk};
 ghost use Rattle.thrift_compact.specs.declared.wire.Wire.{Wire};
 ghost use Rattle.parquet_meta.specs.declared.fault.FileFault.{FileFault};
 ghost use Rattle.parquet_meta.specs.Pieces.{Piece, Moves, MovesBy, Puts};
 ghost use Rattle.parquet_meta.specs.Values.{typed, elements_from, list_in, number_in, text_in};
-ghost use Rattle.parquet_meta.specs.Structs.{fields_of};
+ghost use Rattle.parquet_meta.specs.Structs.{fields_of, needed};
 
 use crate::fault::FileFault;
 use crate::items::Items;
 use crate::reader::{Header, Reader};
 use row_base::Text;
 use std::alloc::Global;
-use thrift_compact::{Field, Wire};
+use thrift_compact::{Appender, Field, NoMemory, Wire};
 
 /// What is known of a struct while its fields are read. Memory is taken from an `M`: `Global`, or `()` where none is.
 pub(crate) trait Fields<M>: Drop {
@@ -22,15 +22,21 @@ pub(crate) trait Fields<M>: Drop {
         ensures { Puts reader.old reader.new self.new result (step reader.old.piece header.id header.wire header.place reader.old.at self.old) };
 }
 
-/// What can be an element of a list.
+/// What can be an element of a list, or the value of a field.
 pub(crate) trait Element: Drop {
     ghost kind: { Wire };
+
+    ghost text: { Self → List ℕ };
 
     ghost element: { Piece → ℕ → ℕ → Result (Self × ℕ) FileFault };
 
     /// The wire type of an element.
     fn wire() -> Wire
         ensures { result ≡ kind };
+
+    /// Appends the text of an element.
+    fn write(&self, out: &mut Appender) -> Result<(), NoMemory>
+        ensures { OnOk result (out.new ≡ out.old ++ text self.now) };
 
     /// An element of the list that is the value of the field at a place.
     fn read(alloc: Global, reader: &mut Reader<'_>, place: usize) -> Result<Self, FileFault>
@@ -47,6 +53,16 @@ impl Header {
         } else {
             Err(FileFault::Thrift { at: self.place })
         }
+    }
+}
+
+/// The value of a needed field; where it didn't come, the fault is at the struct's stop.
+pub(crate) fn needed<T>(stop: usize, value: Option<T>) -> Result<T, FileFault>
+    ensures { result ≡ needed stop value }
+{
+    match value {
+        Some(value) => Ok(value),
+        None => Err(FileFault::Thrift { at: stop }),
     }
 }
 

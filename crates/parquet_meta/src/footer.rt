@@ -1,37 +1,35 @@
 //! The structs of a file's metadata, read (Parquet format, parquet.thrift).
 ghost use Rattle.std.specs.Prelude.{◌≡◌};
 ghost use Rattle.parquet_meta.specs.Pieces.{Moves, Puts};
-ghost use Rattle.parquet_meta.specs.Structs.{needed};
 ghost use Rattle.parquet_meta.specs.Values.{list_in, number_of, text_in, typed};
 ghost use Rattle.parquet_meta.specs.Footer as spec;
+ghost use Rattle.parquet_meta.specs.Written.{chunk_text, group_text, element_text};
 ghost use Rattle.thrift_compact.specs.declared.wire.Wire.TheVariants as wires;
+ghost use Rattle.thrift_compact.specs.Writing.{number_bytes, binary_bytes};
 
 use crate::fault::FileFault;
-use crate::fields::{Element, Fields, read_fields, read_list, read_number, read_text};
+use crate::fields::{Element, Fields, needed, read_fields, read_list, read_number, read_text};
 use crate::known::{ChunkKnown, ColumnKnown, ElementKnown, FileKnown, GroupKnown};
 use crate::meta::{ColumnChunk, ColumnMetaData, FileMeta, RowGroup, SchemaElement};
 use crate::reader::{Header, Reader};
+use crate::written::{write_chunk, write_element, write_group};
 use row_base::{Text, Texts};
 use std::alloc::Global;
-use thrift_compact::Wire;
-
-/// The value of a needed field; where it didn't come, the fault is at the struct's stop.
-pub(crate) fn needed<T>(stop: usize, value: Option<T>) -> Result<T, FileFault>
-    ensures { result ≡ needed stop value }
-{
-    match value {
-        Some(value) => Ok(value),
-        None => Err(FileFault::Thrift { at: stop }),
-    }
-}
+use thrift_compact::{Appender, NoMemory, Wire};
 
 impl Element for i64 {
     ghost kind = { wires.I32 };
 
     ghost element = { number_of };
 
+    ghost text = { number_bytes };
+
     fn wire() -> Wire {
         Wire::I32
+    }
+
+    fn write(&self, out: &mut Appender) -> Result<(), NoMemory> {
+        out.number(*self)
     }
 
     fn read(_alloc: Global, reader: &mut Reader<'_>, _place: usize) -> Result<i64, FileFault> {
@@ -44,8 +42,14 @@ impl Element for Text {
 
     ghost element = { text_in };
 
+    ghost text = { binary_bytes };
+
     fn wire() -> Wire {
         Wire::Binary
+    }
+
+    fn write(&self, out: &mut Appender) -> Result<(), NoMemory> {
+        out.binary(self.as_str().as_bytes())
     }
 
     fn read(alloc: Global, reader: &mut Reader<'_>, place: usize) -> Result<Text, FileFault> {
@@ -189,8 +193,14 @@ impl Element for ColumnChunk {
 
     ghost element = { spec.chunk_in };
 
+    ghost text = { chunk_text };
+
     fn wire() -> Wire {
         Wire::Struct
+    }
+
+    fn write(&self, out: &mut Appender) -> Result<(), NoMemory> {
+        write_chunk(out, self)
     }
 
     #[tactic(auto, unfolding(crate::specs::Footer::chunk_in))]
@@ -242,8 +252,14 @@ impl Element for RowGroup {
 
     ghost element = { spec.group_in };
 
+    ghost text = { group_text };
+
     fn wire() -> Wire {
         Wire::Struct
+    }
+
+    fn write(&self, out: &mut Appender) -> Result<(), NoMemory> {
+        write_group(out, self)
     }
 
     #[tactic(auto, unfolding(crate::specs::Footer::group_in))]
@@ -315,8 +331,14 @@ impl Element for SchemaElement {
 
     ghost element = { spec.element_in };
 
+    ghost text = { element_text };
+
     fn wire() -> Wire {
         Wire::Struct
+    }
+
+    fn write(&self, out: &mut Appender) -> Result<(), NoMemory> {
+        write_element(out, self)
     }
 
     #[tactic(auto, unfolding(crate::specs::Footer::element_in))]

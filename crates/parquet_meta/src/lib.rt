@@ -10,10 +10,15 @@ mod head;
 mod items;
 mod known;
 mod meta;
+mod page;
 mod reader;
+mod written;
 
 pub use fault::FileFault;
 pub use file::{read_footer, read_page_head, write_footer, write_page_head};
 pub use head::{DataPageHead, DictionaryPageHead, PageAt, PageHead};
 pub use items::Items;
 pub use meta::{ColumnChunk, ColumnMetaData, FileMeta, RowGroup, SchemaElement};
+
+#[cfg(test)]
+mod tests;

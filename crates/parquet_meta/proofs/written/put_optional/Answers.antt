@@ -1,0 +1,14 @@
+use Rattle.std.proofs.Common.{refl, rules}
+use Rattle.std.specs.Int.{w16}
+use mir.Val.{SFits, to_z, of_z}
+use Rattle.std.proofs.lemmas.Int.{to_z-of_z}
+use Rattle.thrift_compact.specs.declared.wire.Wire.TheVariants as wires
+use Rattle.thrift_compact.specs.Writing.{number_bytes, binary_bytes}
+use Rattle.parquet_meta.specs.Written.{list_text, data_text, dictionary_text}
+use Rattle.parquet_meta.proofs.Puts.{put_some, put_none}
+use Rattle.parquet_meta.proofs.written.put_optional.Goals as goal
+
+pub returns-in-None : goal.returns-in-None
+returns-in-None c =
+    let fits_last : SFits w16 c.args.last = search rules in
+    rw c.in-None.is (put_none c.args.out.now c.args.last (to_z w16 (of_z w16 c.args.last)) (to_z-of_z w16 c.args.last fits_last))
