@@ -8,3 +8,8 @@ pub mod DatumOrder
 pub mod Distinct
 pub mod Widths
 pub mod PackedBytes
+pub mod PlainRead
+pub mod PagesRead
+pub mod Kept
+pub mod PlainBack
+pub mod Returning

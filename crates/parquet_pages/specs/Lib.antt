@@ -6,3 +6,4 @@ pub mod Places
 pub mod Pages
 pub mod Written
 pub mod Grammar
+pub mod ReadBack

@@ -4,10 +4,12 @@
 mod dictionary;
 mod fault;
 mod hybrid;
+mod laws;
 mod levels;
 mod pages;
 mod places;
 mod plain;
 
 pub use dictionary::Dictionary;
+pub use laws::{pages_are_read, pages_read_back};
 pub use pages::{page_has_null, read_dictionary, read_page, write_page};
