@@ -1,6 +1,6 @@
 //! Dictionaries of chunks (Parquet format, Encodings.md, "Dictionary Encoding (PLAIN_DICTIONARY = 2 and RLE_DICTIONARY =
 //! 8)").
-ghost use Rattle.std.specs.Prelude.{false, ◌≡◌, ◌^◌, ◌<◌, ◌≤◌, ◌+◌, ◌++◌, ◌∷◌, [], ℕ, true, length, slice_index, EachIndex, if◌then◌else◌, not, ◌||◌, nat_le, is_some, vec_len, Some, None, IfOk, OnOk};
+ghost use Rattle.std.specs.Prelude.{◌==◌, false, ◌≡◌, ◌^◌, ◌<◌, ◌≤◌, ◌+◌, ◌++◌, ◌∷◌, [], ℕ, true, length, slice_index, EachIndex, if◌then◌else◌, not, ◌||◌, nat_le, is_some, vec_len, Some, None, IfOk, OnOk};
 ghost use Rattle.std.specs.List.{All};
 ghost use Rattle.std.specs.Ordering.{is_eq};
 ghost use Rattle.bit_pack.specs.Bits.{most_values};
@@ -242,5 +242,19 @@ impl Dictionary {
         append_levels(alloc, optional, values, &mut out)?;
         append_places(alloc, self.values.len(), places.as_slice(), &mut out)?;
         Ok(out)
+    }
+
+    /// How many values it has.
+    pub fn len(&self) -> usize
+        ensures { result ≡ length self.now }
+    {
+        self.values.len()
+    }
+
+    /// Whether it has no value, as that of a column of nulls alone.
+    pub fn is_empty(&self) -> bool
+        ensures { result ≡ (length self.now == 0) }
+    {
+        self.values.is_empty()
     }
 }

@@ -2,3 +2,4 @@ pub mod PageLemmas
 pub mod Parts
 pub mod WriterLemmas
 pub mod Standing
+pub mod Dictionaries

@@ -23,11 +23,11 @@ kind_stands false e place h = cc
 
 stands : (partition : List ℕ) (place : ℕ) (c : Column) (d : Datum) → datum_fault partition place c d ≡ None → CanStand c.kind c.nullable d
 stands partition place c datum.Null e = null_stands c.nullable place e
-stands partition place c (datum.Long n) e = kind_stands (is_of_kind c.kind (datum.Long n)) _ place e
-stands partition place c (datum.Integer n) e = kind_stands (is_of_kind c.kind (datum.Integer n)) _ place e
-stands partition place c (datum.Boolean b) e = kind_stands (is_of_kind c.kind (datum.Boolean b)) _ place e
-stands partition place c (datum.Text t) e = kind_stands (is_of_kind c.kind (datum.Text t)) _ place e
-stands partition place c (datum.Date n) e = kind_stands (is_of_kind c.kind (datum.Date n)) _ place e
+stands partition place c (datum.Long n) e = kind_stands (is_of_kind c.kind (datum.Long n)) (is_empty_text (datum.Long n) && list_any (λ p. p == place) partition) place e
+stands partition place c (datum.Integer n) e = kind_stands (is_of_kind c.kind (datum.Integer n)) (is_empty_text (datum.Integer n) && list_any (λ p. p == place) partition) place e
+stands partition place c (datum.Boolean b) e = kind_stands (is_of_kind c.kind (datum.Boolean b)) (is_empty_text (datum.Boolean b) && list_any (λ p. p == place) partition) place e
+stands partition place c (datum.Text t) e = kind_stands (is_of_kind c.kind (datum.Text t)) (is_empty_text (datum.Text t) && list_any (λ p. p == place) partition) place e
+stands partition place c (datum.Date n) e = kind_stands (is_of_kind c.kind (datum.Date n)) (is_empty_text (datum.Date n) && list_any (λ p. p == place) partition) place e
 
 row_stands : (s : TableSchema) (k : ℕ) (c : Column) (row : List Datum) → k < length s.columns → c ≡ get_or s.columns k c → FitsSchema s row → CanStand c.kind c.nullable (get_or row k datum.Null)
 row_stands s k c row within is fits =

@@ -148,7 +148,7 @@ pub(crate) fn append_front(
     match dictionary {
         Some(dictionary) => {
             let body = dictionary.page(alloc, column.kind)?;
-            let count = number_of(dictionary.as_slice().len())?;
+            let count = number_of(dictionary.len())?;
             let head = dictionary_head(count, number_of(body.len())?);
             append_page(alloc, &head, &body, out)
         }

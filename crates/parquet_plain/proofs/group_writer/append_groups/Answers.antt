@@ -1,4 +1,4 @@
-use Rattle.std.proofs.Common.{◌≡◌, ◌++◌, ◌<◌, ◌≤◌, ℕ, [], ap, sym, ◌∙◌, refl, length, min, arith, subst, drop, take}
+use Rattle.std.proofs.Common.{◌≡◌, ◌++◌, ◌∷◌, [], ap, sym, ◌∙◌, length, subst}
 use Rattle.std.specs.List.{All}
 use Rattle.std.proofs.lemmas.List.Elements.{All-take, All-drop}
 use Rattle.row_base.specs.Schema.{FitsSchema}
@@ -12,17 +12,26 @@ append_group-requires-clause-fits c =
     (All-take (FitsSchema c.args.schema.now) c.min.result c.loop-rest.rest.now c.loop-rest.invariant.fits)
 
 pub loop-rest-preserved : goal.loop-rest-preserved
-loop-rest-preserved c =
-    let some = some_left c.is_empty.result c.loop-rest.rest.now c.is_empty.ensures c.loop-rest-test.true in
-    record {
-      text =
-        groups_step c.args.schema.now c.loop-rest.out.items c.append_group.new.out.items c.loop-rest.rest.now c.split_at.result.0.now c.split_at.result.1.now c.min.result
-        c.min.ensures c.split_at.ensures.front c.split_at.ensures.back some ?
-        ∙ c.loop-rest.invariant.text;
-      entries = ?;
-      fits = subst (All (FitsSchema c.args.schema.now)) (sym c.split_at.ensures.back)
-        (All-drop (FitsSchema c.args.schema.now) c.min.result c.loop-rest.rest.now c.loop-rest.invariant.fits);
-    }
+loop-rest-preserved c = record {
+  text =
+    groups_step c.args.schema.now c.loop-rest.out.items c.append_group.new.out.items c.loop-rest.rest.now c.split_at.result.0.now c.split_at.result.1.now c.min.result
+    c.min.ensures c.split_at.ensures.front c.split_at.ensures.back
+    (some_left c.is_empty.result c.loop-rest.rest.now c.is_empty.ensures c.loop-rest-test.true) c.in_ok-append_group.ensures.text
+    ∙ c.loop-rest.invariant.text;
+  entries =
+    entries_step c.args.schema.now c.loop-rest.groups.items c.push.new.self.items c.loop-rest.out.items c.append_group.new.out.items c.loop-rest.rest.now c.split_at.result.0.now c.split_at.result.1.now c.min.result
+    c.min.ensures c.split_at.ensures.front c.split_at.ensures.back
+    (some_left c.is_empty.result c.loop-rest.rest.now c.is_empty.ensures c.loop-rest-test.true) c.in_ok-append_group.ensures.text
+    (c.in_ok-push.ensures.items ∙ ap (λ g. c.loop-rest.groups.items ++ g ∷ []) c.in_ok-append_group.ensures.entry)
+    ∙ c.loop-rest.invariant.entries;
+  fits = subst (All (FitsSchema c.args.schema.now)) (sym c.split_at.ensures.back)
+    (All-drop (FitsSchema c.args.schema.now) c.min.result c.loop-rest.rest.now c.loop-rest.invariant.fits);
+}
 
 pub returns : goal.returns
-returns c = ?
+returns c =
+    let none = none_left c.is_empty.result c.loop-rest.rest.now c.is_empty.ensures c.loop-rest-test.false in
+    record {
+      text = groups_done c.args.schema.now c.loop-rest.rest.now c.loop-rest.out.items none ∙ c.loop-rest.invariant.text;
+      entries = entries_done c.args.schema.now c.loop-rest.rest.now c.loop-rest.groups.items (length c.loop-rest.out.items) none ∙ c.loop-rest.invariant.entries;
+    }
