@@ -1,7 +1,10 @@
 //! Copies of actions. Texts share their bytes.
 ghost use Rattle.std.specs.Prelude.{◌≡◌, IfOk};
 
-use crate::action::{AddFile, Format, MetaData, Protocol, RemoveFile, Txn};
+use crate::action::{
+    Action, AddFile, CheckpointMetadata, CommitInfo, Format, MetaData, Protocol, RemoveFile,
+    Sidecar, Txn,
+};
 use json_lines::{PartitionMap, TextMap, copy_text};
 use row_base::{NoMemory, Texts};
 use std::alloc::Global;
@@ -125,5 +128,65 @@ impl Txn {
             version: self.version,
             last_updated: self.last_updated,
         })
+    }
+}
+
+impl CommitInfo {
+    /// An equal information.
+    pub fn copy(&self) -> Result<CommitInfo, NoMemory>
+        ensures { IfOk result (λ i. i ≡ self.now) }
+    {
+        Ok(CommitInfo {
+            timestamp: self.timestamp,
+            operation: copy_text(&self.operation)?,
+            read_version: self.read_version,
+            isolation_level: copy_text(&self.isolation_level)?,
+            is_blind_append: self.is_blind_append,
+            txn_id: copy_text(&self.txn_id)?,
+        })
+    }
+}
+
+impl CheckpointMetadata {
+    /// An equal description.
+    pub fn copy(&self, alloc: Global) -> Result<CheckpointMetadata, NoMemory>
+        ensures { IfOk result (λ m. m ≡ self.now) }
+    {
+        Ok(CheckpointMetadata {
+            version: self.version,
+            tags: copy_map(alloc, &self.tags)?,
+        })
+    }
+}
+
+impl Sidecar {
+    /// An equal sidecar.
+    pub fn copy(&self) -> Result<Sidecar, NoMemory>
+        ensures { IfOk result (λ s. s ≡ self.now) }
+    {
+        Ok(Sidecar {
+            path: self.path.copy()?,
+            size_in_bytes: self.size_in_bytes,
+            modification_time: self.modification_time,
+        })
+    }
+}
+
+impl Action {
+    /// An equal action. The bytes of its texts are shared.
+    pub fn copy(&self, alloc: Global) -> Result<Action, NoMemory>
+        ensures { IfOk result (λ a. a ≡ self.now) }
+    {
+        match self {
+            Action::Protocol(protocol) => Ok(Action::Protocol(protocol.copy(alloc)?)),
+            Action::Meta(meta) => Ok(Action::Meta(meta.copy(alloc)?)),
+            Action::Add(add) => Ok(Action::Add(add.copy(alloc)?)),
+            Action::Remove(remove) => Ok(Action::Remove(remove.copy(alloc)?)),
+            Action::Txn(txn) => Ok(Action::Txn(txn.copy()?)),
+            Action::Info(info) => Ok(Action::Info(info.copy()?)),
+            Action::Checkpoint(metadata) => Ok(Action::Checkpoint(metadata.copy(alloc)?)),
+            Action::Sidecar(sidecar) => Ok(Action::Sidecar(sidecar.copy()?)),
+            Action::Ignored => Ok(Action::Ignored),
+        }
     }
 }

@@ -1,6 +1,6 @@
 //! Texts from outside: commits written by hand, foreign and damaged lines.
 
-use crate::{LogFaultKind, read_commit, write_commit};
+use crate::{Action, LogFaultKind, is_absolute, read_commit, write_commit};
 use row_base::NoMemory;
 use std::alloc::Global;
 use std::test::Fail;
@@ -68,6 +68,66 @@ fn commits_are_written_as_they_were_read(rt: HostRuntime) -> Result<(), Fail> {
     Ok(())
 }
 
+/// A line for each sort of action, each with all of its members that are written.
+const ALL: &str =
+    r#"{"commitInfo":{"isBlindAppend":true,"isolationLevel":"Serializable","operation":"WRITE","readVersion":4,"timestamp":7,"txnId":"t"}}
+{"protocol":{"minReaderVersion":3,"minWriterVersion":7,"readerFeatures":[],"writerFeatures":["appendOnly"]}}
+{"metaData":{"configuration":{"a":"b"},"createdTime":1,"description":"d","format":{"options":{"o":"p"},"provider":"parquet"},"id":"i","name":"n","partitionColumns":["day"],"schemaString":"{}"}}
+{"txn":{"appId":"a","version":18446744073709551615}}
+{"checkpointMetadata":{"tags":{"stamp":"5"},"version":5}}
+{"sidecar":{"modificationTime":6,"path":"s.parquet","sizeInBytes":9223372036854775807}}
+{"remove":{"dataChange":true,"deletionTimestamp":8,"extendedFileMetadata":true,"partitionValues":{"day":null},"path":"r","size":9,"tags":{}}}
+{"add":{"dataChange":false,"modificationTime":2,"partitionValues":{"day":"1"},"path":"a%20b","size":3,"stats":"{}","tags":{"t":"u"}}}
+"#;
+
+/// The text that is written for copies of what a text says.
+fn copied(alloc: Global, text: &str) -> Result<Vec<u8>, NoMemory> {
+    let mut copies = Vec::new(alloc);
+    match read_commit(alloc, text.as_bytes()) {
+        Ok(actions) => {
+            for action in &actions {
+                copies.push(action.copy(alloc)?)?;
+            }
+        }
+        Err(_) => {}
+    }
+    write_commit(alloc, &copies)
+}
+
+#[test]
+fn actions_are_copied(rt: HostRuntime) -> Result<(), Fail> {
+    let alloc = rt.alloc();
+    assert!(rt; rewritten(alloc, ALL)?.as_slice() == ALL.as_bytes());
+    assert!(rt; copied(alloc, ALL)?.as_slice() == ALL.as_bytes());
+    assert!(rt; copied(alloc, "{\"cdc\":0}")?.is_empty());
+    Ok(())
+}
+
+/// Whether a text's last action adds a file of this name without statistics.
+fn adds_last(alloc: Global, text: &str, name: &str) -> bool {
+    match read_commit(alloc, text.as_bytes()) {
+        Ok(actions) => match actions.last() {
+            Some(Action::Add(add)) => add.name.as_str() == name && add.stats.is_none(),
+            _ => false,
+        },
+        Err(_) => false,
+    }
+}
+
+#[test]
+fn paths_name_objects(rt: HostRuntime) {
+    assert!(rt; adds_last(rt.alloc(), FOREIGN, "day=1/part a.parquet"));
+    assert!(rt; is_absolute("/a") && is_absolute("file:a") && !is_absolute("a/b:c"));
+}
+
+#[test]
+fn bytes_that_are_no_text(rt: HostRuntime) {
+    let alloc = rt.alloc();
+    assert!(rt; ending(alloc, b"{\"a\":\"\xff\"}") == Outcome::Json(1));
+    assert!(rt; ending(alloc, b"{\"cdc\":0}\n\xef\xbb\xbf{\"cdc\":0}") == Outcome::Json(2));
+    assert!(rt; ending(alloc, b"{\"cdc\":0}\n\0") == Outcome::Json(2));
+}
+
 /// A commit that is cut has the lines so far where the cut stands behind a line, and else its last line is no JSON.
 #[test]
 fn cut_commits(rt: HostRuntime) {
@@ -128,6 +188,12 @@ fn foreign_lines(rt: HostRuntime) {
         ("[]", Outcome::Json(1)),
         ("{\"a\":1e400}", Outcome::Json(1)),
         ("{\"a\":\"\\ud800\"}", Outcome::Json(1)),
+        ("{\"a\":\"\\udc00\\ud800\"}", Outcome::Json(1)),
+        ("{\"a\":\"\\ud83d\\ude00\"}", Outcome::Actions(1)),
+        ("{\"a\":\"\t\"}", Outcome::Json(1)),
+        ("{\"a\":+1}", Outcome::Json(1)),
+        ("{\"a\":1,\"a\":2}", Outcome::Actions(1)),
+        ("{\"a\":1} {\"a\":1}", Outcome::Json(1)),
         ("{\"a\":\"\\q\"}", Outcome::Json(1)),
         ("{\"a\":01}", Outcome::Json(1)),
         ("{}", Outcome::Shape(1)),

@@ -4,3 +4,4 @@ pub mod SchemaLemmas
 pub mod RowLemmas
 pub mod DateLemmas
 pub mod Bags
+pub mod DayNumbers

@@ -1,54 +1,22 @@
 -- The data that are read have texts: each date is a day of the years 1 to 9999.
-use Rattle.std.proofs.Common.{◌≡◌, ℕ, ◌+◌, ◌<◌, ◌≤◌, ◌==◌, ◌⊎◌, inl, inr, Bool, true, false, if◌then◌else◌, nat_le, List, [], ◌∷◌, length, codes, Option, Some, None, option_map, option_and_then, Result, Ok, Err, ℤ, pos, neg_ℤ, refl, sym, ap, ◌∙◌, subst, arith}
+use Rattle.std.proofs.Common.{◌≡◌, ℕ, ◌+◌, ◌==◌, Bool, true, false, if◌then◌else◌, nat_le, List, [], ◌∷◌, length, codes, Option, Some, None, option_map, option_and_then, Result, Ok, Err, ℤ, refl, sym, ap, ◌∙◌, subst}
 use Rattle.std.specs.List.{list_any, All}
 use Rattle.std.specs.Str.{bytes_eq}
 use Rattle.std.proofs.lemmas.List.Elements.{All-cons, All-nil}
-use Rattle.jiff_core.specs.Calendar.{days_from_civil, day_count, days_of_years, days_of_months, IsCivilDate}
-use Rattle.jiff_core.proofs.SignedLemmas.{signed_arith}
-use Rattle.jiff_core.proofs.CalendarLemmas.{days_from_civil-day_count, day_count-lt_year, day_count-day_of_year}
 use Rattle.json_lines.specs.declared.map.PartitionValue.{PartitionValue}
 use Rattle.row_base.specs.declared.row.Datum.{Datum}
 use Rattle.row_base.specs.declared.row.Datum.TheVariants as datum
 use Rattle.row_base.specs.declared.row.Kind.{Kind}
 use Rattle.row_base.specs.declared.row.Kind.TheVariants as kind
 use Rattle.row_base.specs.declared.schema.Column.{Column}
-use Rattle.row_base.specs.Dates.{IsDay, IsDayNumber, date_in}
+use Rattle.row_base.specs.Dates.{date_in}
 use Rattle.row_base.specs.Schema.{TableSchema}
-use Rattle.row_base.proofs.DateLemmas.{read_is}
+use Rattle.row_base.proofs.DayNumbers.{date_is}
 use Rattle.schema_text.specs.declared.fault.SchemaTextFault.{SchemaTextFault}
 use Rattle.schema_text.specs.Faults.{◌>>=◌}
 use Rattle.schema_text.specs.Numbers.{long_in, if_i32}
 use Rattle.schema_text.specs.Partition.{datum_of, datum_by, text_of, or_value, datum_in, cell, cells, partition_row}
 use Rattle.schema_text.specs.PartitionWritten.{HasText}
-
-same_or_later : (y : ℕ) → 1 ≤ y → (y ≡ 1) ⊎ (1 < y)
-same_or_later y h = grind arith
-
-from_first : (y m d : ℕ) → IsDay y m d → day_count (pos 1) 1 1 ≤ day_count (pos y) m d
-from_first y m d h = elim (same_or_later y h.0.0) [
-  | inl same ↦ subst (λ n. day_count (pos n) 1 1 ≤ day_count (pos y) m d) same (omega (arith, h.2.0, day_count-day_of_year (pos y) m d h.2.0))
-  | inr later ↦ omega (arith, day_count-lt_year (pos 1) 1 1 (pos y) m d (omega (arith, signed_arith), (omega arith, omega arith), (omega arith, omega arith)) h.2.0 (omega (arith, signed_arith)))
-]
-
-first_day : days_from_civil (pos 1) 1 1 ≡ neg_ℤ (pos 719_162)
-unfolding days_from_civil day_count days_of_years days_of_months
-first_day = refl
-
-past_last : days_from_civil (pos 10000) 1 1 ≡ pos 2_932_897
-unfolding days_from_civil day_count days_of_years days_of_months
-past_last = refl
-
-in_range : (y m d : ℕ) → IsDay y m d → IsDayNumber (days_from_civil (pos y) m d)
-in_range y m d h =
-    let civil : IsCivilDate (pos y) m d = (omega (arith, signed_arith, h.0.0, h.0.1), h.1, h.2) in
-    let low = from_first y m d h in
-    let high = day_count-lt_year (pos y) m d (pos 10000) 1 1 civil (omega arith) (omega (arith, signed_arith)) in (
-      omega (arith, signed_arith, first_day, low, days_from_civil-day_count (pos y) m d, days_from_civil-day_count (pos 1) 1 1),
-      omega (arith, signed_arith, past_last, high, days_from_civil-day_count (pos y) m d, days_from_civil-day_count (pos 10000) 1 1),
-    )
-
-date_is : (text : List ℕ) (n : ℤ) → date_in text ≡ Some n → IsDayNumber n
-date_is text n e = let t = read_is text n e in subst IsDayNumber (sym t.is_number) (in_range t.year t.month t.day t.is_day)
 
 of_date : (o : Option ℤ) (text : List ℕ) (d : Datum) → date_in text ≡ o → option_map datum.Date o ≡ Some d → HasText d
 of_date None text d is e = cc

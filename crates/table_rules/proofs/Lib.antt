@@ -1,3 +1,6 @@
 pub mod Numerals
 pub mod Ids
 pub mod Names
+pub mod Decimals
+pub mod Intervals
+pub mod Properties

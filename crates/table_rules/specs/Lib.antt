@@ -1,3 +1,8 @@
 pub mod Digits
 pub mod Names
 pub mod Told
+pub mod Faults
+pub mod Protocols
+pub mod Decimals
+pub mod Intervals
+pub mod Properties

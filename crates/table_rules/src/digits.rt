@@ -19,7 +19,7 @@ pub fn padded_digits<const N: usize>(number: u64) -> [u8; N]
     digits
 }
 
-fn are_digits(text: &[u8]) -> bool
+pub(crate) fn are_digits(text: &[u8]) -> bool
     ensures { result ≡ list_all is_ascii_digit text.now }
 {
     text.iter().all(|b| b.is_ascii_digit())

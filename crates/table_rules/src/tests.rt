@@ -1,5 +1,10 @@
-use crate::{LogName, commit_name, data_file_name, log_prefix, read_log_name, statement_id};
+use crate::{
+    FeatureFault, Level, LogName, Rules, accepts, commit_name, data_file_name, log_prefix,
+    read_interval, read_log_name, rules_of, statement_id,
+};
 use edge_api::{Name, Tag};
+use log_actions::{Entry, Feature, Format, MetaData, Protocol, TextMap};
+use row_base::{NoMemory, Text, Texts};
 use std::alloc::{AllocError, Global};
 use std::test::Fail;
 
@@ -86,5 +91,174 @@ fn names_of_checkpoints_are_read(rt: HostRuntime) -> Result<(), Fail> {
         "_delta_log/00000000000000000010.checkpoint.0000000004.0000000003.parquet",
     )?;
     assert_eq!(rt; past, LogName::OtherLog);
+    Ok(())
+}
+
+#[test]
+fn intervals_are_read(rt: HostRuntime) -> Result<(), Fail> {
+    for (text, wanted) in [
+        ("interval 1 week", Some(604_800_000)),
+        ("interval 2 hours", Some(7_200_000)),
+        ("interval 0 days", Some(0)),
+        (
+            "interval 1099511627776 milliseconds",
+            Some(1_099_511_627_776),
+        ),
+        ("interval 1099511627777 millisecond", None),
+        ("interval 18446744073709551617 second", None),
+        ("1 week", None),
+        ("interval 01 week", None),
+        ("interval +1 week", None),
+        ("interval  1 week", None),
+        ("interval 1 weekss", None),
+        ("interval 1 week ", None),
+        ("interval 1", None),
+    ] {
+        let text = Text::make(rt.alloc(), text)?;
+        assert_eq!(rt; read_interval(&text), wanted);
+    }
+    Ok(())
+}
+
+fn one_feature(alloc: Global, name: &str) -> Result<Option<Texts>, NoMemory> {
+    let mut names = Vec::new(alloc);
+    names.push(Text::make(alloc, "appendOnly")?)?;
+    names.push(Text::make(alloc, name)?)?;
+    Ok(Some(Texts::make(names)))
+}
+
+fn is_accepted(reader: u64, writer: u64) -> bool {
+    accepts(&Protocol {
+        min_reader_version: reader,
+        min_writer_version: writer,
+        reader_features: None,
+        writer_features: None,
+    })
+    .is_ok()
+}
+
+/// The feature that is named for such features of readers and writers; the empty text where there is none.
+fn other_feature(alloc: Global, reader: &str, writer: &str) -> Result<Text, NoMemory> {
+    let protocol = Protocol {
+        min_reader_version: 3,
+        min_writer_version: 7,
+        reader_features: one_feature(alloc, reader)?,
+        writer_features: one_feature(alloc, writer)?,
+    };
+    match accepts(&protocol) {
+        Err(FeatureFault::Unsupported(Feature::Named { name })) => Ok(name),
+        _ => Text::make(alloc, ""),
+    }
+}
+
+#[test]
+fn protocols_are_accepted(rt: HostRuntime) -> Result<(), Fail> {
+    let alloc = rt.alloc();
+    assert!(rt; is_accepted(1, 1) && is_accepted(1, 2) && is_accepted(3, 7));
+    assert!(rt; !is_accepted(2, 5) && !is_accepted(2, 1) && !is_accepted(3, 2));
+    let none = other_feature(alloc, "v2Checkpoint", "invariants")?;
+    assert_eq!(rt; none.as_str(), "");
+    let first = other_feature(alloc, "columnMapping", "identityColumns")?;
+    assert_eq!(rt; first.as_str(), "columnMapping");
+    let second = other_feature(alloc, "v2Checkpoint", "identityColumns")?;
+    assert_eq!(rt; second.as_str(), "identityColumns");
+    Ok(())
+}
+
+fn metadata(alloc: Global, properties: &[(&str, &str)]) -> Result<MetaData, NoMemory> {
+    let mut entries = Vec::new(alloc);
+    for (key, value) in properties {
+        entries.push(Entry {
+            key: Text::make(alloc, key)?,
+            value: Text::make(alloc, value)?,
+        })?;
+    }
+    Ok(MetaData {
+        id: Text::make(alloc, "t")?,
+        name: None,
+        description: None,
+        format: Format {
+            provider: Text::make(alloc, "parquet")?,
+            options: None,
+        },
+        schema_string: Text::make(alloc, "")?,
+        partition_columns: Texts::make(Vec::new(alloc)),
+        created_time: None,
+        configuration: Some(TextMap::make(entries)),
+    })
+}
+
+fn set(alloc: Global, properties: &[(&str, &str)]) -> Result<Option<Rules>, NoMemory> {
+    let meta = metadata(alloc, properties)?;
+    Ok(rules_of(&meta).ok())
+}
+
+/// The key of the property that is refused; the empty text where none is.
+fn refused(alloc: Global, properties: &[(&str, &str)]) -> Result<Text, NoMemory> {
+    let meta = metadata(alloc, properties)?;
+    match rules_of(&meta) {
+        Err(FeatureFault::Unsupported(Feature::Property { key })) => Ok(key),
+        _ => Text::make(alloc, ""),
+    }
+}
+
+#[test]
+fn properties_set_the_rules(rt: HostRuntime) -> Result<(), Fail> {
+    let alloc = rt.alloc();
+    let defaults = set(alloc, &[])?;
+    assert!(rt;
+        defaults
+            == Some(Rules {
+                level: Level::WriteSerializable,
+                retention: 604_800_000,
+                interval: 10,
+                append_only: false,
+            })
+    );
+    let others = set(
+        alloc,
+        &[
+            ("delta.appendOnly", "false"),
+            ("delta.checkpointInterval", "1000000"),
+            ("delta.checkpointPolicy", "classic"),
+            ("delta.deletedFileRetentionDuration", "interval 2 hours"),
+            ("delta.isolationLevel", "Serializable"),
+            ("delta.logRetentionDuration", "interval 1 day"),
+            ("owner", "true"),
+        ],
+    )?;
+    assert!(rt;
+        others
+            == Some(Rules {
+                level: Level::Serializable,
+                retention: 7_200_000,
+                interval: 1_000_000,
+                append_only: false,
+            })
+    );
+    Ok(())
+}
+
+#[test]
+fn bad_properties_are_named(rt: HostRuntime) -> Result<(), Fail> {
+    let alloc = rt.alloc();
+    for (key, value) in [
+        ("delta.appendOnly", "true"),
+        ("delta.checkpointInterval", "0"),
+        ("delta.checkpointInterval", "1000001"),
+        ("delta.deletedFileRetentionDuration", "1 week"),
+        ("delta.isolationLevel", "serializable"),
+        ("delta.logRetentionDuration", ""),
+    ] {
+        assert_eq!(rt; refused(alloc, &[(key, value)])?.as_str(), key);
+    }
+    let least = refused(
+        alloc,
+        &[
+            ("delta.isolationLevel", "SnapshotIsolation"),
+            ("delta.checkpointInterval", "010"),
+        ],
+    )?;
+    assert_eq!(rt; least.as_str(), "delta.checkpointInterval");
     Ok(())
 }

@@ -6,7 +6,7 @@ use Rattle.std.specs.Char.{is_ascii_digit}
 use Rattle.std.specs.Str.{bytes_eq}
 use Rattle.std.specs.Str.Parse.{digits_value}
 use Rattle.workbench.specs.declared.words.Kernel.{Kernel}
-use Rattle.workbench.specs.declared.words.Kernel.TheVariants.{Unpack, Pack}
+use Rattle.workbench.specs.declared.words.Kernel.TheVariants.{Unpack, Pack, LogWrite, LogRead}
 use Rattle.workbench.specs.declared.words.Kernel.TheVariants as kernels
 use Rattle.workbench.specs.declared.words.Step.{Step}
 use Rattle.workbench.specs.declared.words.Step.TheVariants as steps
@@ -63,11 +63,15 @@ parquet_kernel name =
     or step_kernel steps.Copy (codes "copy-") name or step_kernel steps.Read (codes "read-") name
 
 -- `unpack-W` and `pack-W` name the kernels of the width W, `parquet-STEP-TABLE` those of a step and a table
-abbrev pub kernel_of : List ℕ → Option Kernel
-kernel_of name =
+abbrev pub fronted_kernel : List ℕ → Option Kernel
+fronted_kernel name =
     option_map (λ width. Unpack width) (option_and_then width_of (after (codes "unpack-") name))
     or option_map (λ width. Pack width) (option_and_then width_of (after (codes "pack-") name))
     or option_and_then parquet_kernel (after (codes "parquet-") name)
+
+-- and `log-write` and `log-read` those of commits
+abbrev pub kernel_of : List ℕ → Option Kernel
+kernel_of name = if bytes_eq name (codes "log-write") then Some LogWrite else if bytes_eq name (codes "log-read") then Some LogRead else fronted_kernel name
 
 -- `hybrid`, `thrift` and `parquet` name the formats
 abbrev pub format_of : List ℕ → Option Format

@@ -15,6 +15,8 @@ pub enum Failed {
     Words(WordsFault),
     #[error("the kernel failed: {0}")]
     Kernel(PackFault),
+    #[error("line {0} of the commit has no reading")]
+    Line(u32),
     #[error("no file holds these rows")]
     Rows,
     #[error("the file that was written can't be read: {0}")]

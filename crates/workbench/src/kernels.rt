@@ -2,6 +2,7 @@
 
 ghost use Rattle.std.specs.Prelude.{◌^◌, ◌<◌};
 
+use crate::commits;
 use crate::failed::Failed;
 use crate::tables;
 use crate::words::Kernel;
@@ -11,11 +12,13 @@ use std::alloc::{AllocError, Global};
 /// How many values a kernel runs over.
 const COUNT: usize = 1 << 22;
 
-/// The checksum of so many runs of a kernel, or what it made of so many rows.
+/// The checksum of so many runs of a kernel, or what it counts of so many rows or added files.
 pub fn run(alloc: Global, kernel: Kernel, number: u32) -> Result<u64, Failed> {
     match kernel {
         Kernel::Unpack(width) => Ok(run_unpack(alloc, width, number)?),
         Kernel::Pack(width) => Ok(run_pack(alloc, width, number)?),
+        Kernel::LogWrite => commits::run_write(alloc, number),
+        Kernel::LogRead => commits::run_read(alloc, number),
         Kernel::Parquet(step, table) => tables::run(alloc, step, table, number),
     }
 }

@@ -1,21 +1,28 @@
 //! The workbench of the formats.
 //!
 //! `time KERNEL N` runs a kernel over data that it makes, and prints a number alone. `unpack-W` and `pack-W`, for a width W
-//! from 0 to 32, run N times and print a checksum. `parquet-STEP-TABLE` makes N rows of a table (`longs`, `words` with a
-//! hundred texts, `texts` without repeats, `booleans` with nulls), and goes on to the step: `rows` no further, `write` to
-//! the file, `copy` to a copy of its bytes, `read` to the rows that it reads as. `read FORMAT FILE` prints what a file reads as, or its fault; the
-//! formats are `hybrid` (one byte of width, four bytes of count, lowest first, and then the hybrid), `thrift` (a struct)
-//! and `parquet` (a Parquet file, for a table of its own columns).
+//! from 0 to 32, run N times and print a checksum. `log-write` writes a commit of N added files with statistics and prints
+//! the number of its bytes; `log-read` does so, reads it and prints the number of its actions. `parquet-STEP-TABLE` makes N
+//! rows of a table (`longs`, `words` with a hundred texts, `texts` without repeats, `booleans` with nulls), goes on to the
+//! step (`rows` no further, `write` to the file, `copy` to a copy of its bytes, `read` to the rows that it reads as), and
+//! prints the number of rows or bytes.
+//!
+//! `read FORMAT FILE` prints what a file reads as, or its fault; the formats are `hybrid` (one byte of width, four bytes of
+//! count, lowest first, and then the hybrid), `thrift` (a struct) and `parquet` (a Parquet file, for a table of its own
+//! columns).
 //!
 //! Where the words aren't accepted the status is 2, where the file can't be read or another call fails it is 1, and a
 //! line on standard error says why.
 #![tactic(auto)]
 
+mod commits;
 mod failed;
 mod kernels;
 mod parquet;
 mod reading;
 mod tables;
+#[cfg(test)]
+mod tests;
 mod words;
 
 ghost use Rattle.std.specs.Prelude.{◌≡◌};
@@ -48,9 +55,9 @@ fn obey(rt: &HostRuntime) -> Result<(), Failed> {
     };
     let command = command_of(word.as_str(), name.as_str(), last.as_str()).map_err(Failed::Words)?;
     match command {
-        Command::Time(kernel, runs) => {
-            let sum = kernels::run(alloc, kernel, runs)?;
-            println!(rt; "{sum}").map_err(Failed::Print)
+        Command::Time(kernel, number) => {
+            let answer = kernels::run(alloc, kernel, number)?;
+            println!(rt; "{answer}").map_err(Failed::Print)
         }
         Command::Read(format) => {
             let bytes = fs::read(rt, last.as_str()).map_err(Failed::File)?;

@@ -38,14 +38,18 @@ pub enum Table {
     Booleans,
 }
 
-/// A kernel that is timed.
+/// What is timed.
 #[derive(Clone, Copy, Debug, Drop, PartialEq, Eq)]
 pub enum Kernel {
-    /// `unpack-W`, for values of W bits
+    /// `unpack-W`: the unpacking of values of so many bits.
     Unpack(u8),
-    /// `pack-W`, for values of W bits
+    /// `pack-W`: their packing.
     Pack(u8),
-    /// `parquet-STEP-TABLE`
+    /// `log-write`: the writing of a commit.
+    LogWrite,
+    /// `log-read`: its writing and reading.
+    LogRead,
+    /// `parquet-STEP-TABLE`: the steps of a table's file.
     Parquet(Step, Table),
 }
 
@@ -63,7 +67,7 @@ pub enum Format {
 /// What the program is asked to do.
 #[derive(Clone, Copy, Debug, Drop, PartialEq, Eq)]
 pub enum Command {
-    /// To run a kernel so many times, or for so many rows.
+    /// To run a kernel so many times, or over so many rows or added files.
     Time(Kernel, u32),
     /// To read a file.
     Read(Format),
@@ -79,9 +83,9 @@ pub enum WordsFault {
     #[error("unknown command: use time or read")]
     Command,
     /// No kernel has this name.
-    #[error("unknown kernel: use unpack-W, pack-W with W from 0 to 32, or parquet-STEP-TABLE")]
+    #[error("unknown kernel: use unpack-W, pack-W, log-write, log-read or parquet-STEP-TABLE")]
     Kernel,
-    /// No number of runs or rows in decimal digits, or one of more than 32 bits.
+    /// No number of runs, rows or added files in decimal digits, or one of more than 32 bits.
     #[error("the last word is no number from 0 to 4294967295")]
     Runs,
     /// No format has this name.
@@ -116,7 +120,17 @@ fn time_command(kernel: Option<Kernel>, runs: Option<u32>) -> Result<Command, Wo
 fn kernel_of(name: &str) -> Option<Kernel>
     ensures { result ≡ spec.kernel_of name.now }
 {
-    let name = name.as_bytes();
+    match name {
+        "log-write" => Some(Kernel::LogWrite),
+        "log-read" => Some(Kernel::LogRead),
+        _ => fronted_kernel(name.as_bytes()),
+    }
+}
+
+/// The kernel of a name that has parts behind a front.
+fn fronted_kernel(name: &[u8]) -> Option<Kernel>
+    ensures { result ≡ spec.fronted_kernel name.now }
+{
     if let Some(width) = width_after(b"unpack-", name) {
         return Some(Kernel::Unpack(width));
     }
