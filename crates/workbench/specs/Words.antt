@@ -1,5 +1,5 @@
 -- Which words name which kernel and format, and what the words ask for.
-use Rattle.std.specs.Prelude.{ℕ, ◌^◌, ◌&&◌, Bool, if◌then◌else◌, nat_lt, nat_le, List, length, take, drop, codes, Option, Some, None, Result, Ok, Err}
+use Rattle.std.specs.Prelude.{ℕ, ◌^◌, ◌&&◌, Bool, if◌then◌else◌, nat_lt, nat_le, List, length, take, drop, codes, Option, Some, None, option_map, Result, Ok, Err}
 use Rattle.std.specs.Option.{option_and_then}
 use Rattle.std.specs.List.{list_all}
 use Rattle.std.specs.Char.{is_ascii_digit}
@@ -7,8 +7,13 @@ use Rattle.std.specs.Str.{bytes_eq}
 use Rattle.std.specs.Str.Parse.{digits_value}
 use Rattle.workbench.specs.declared.words.Kernel.{Kernel}
 use Rattle.workbench.specs.declared.words.Kernel.TheVariants.{Unpack, Pack, LogWrite, LogRead}
+use Rattle.workbench.specs.declared.words.Kernel.TheVariants as kernels
+use Rattle.workbench.specs.declared.words.Step.{Step}
+use Rattle.workbench.specs.declared.words.Step.TheVariants as steps
+use Rattle.workbench.specs.declared.words.Table.{Table}
+use Rattle.workbench.specs.declared.words.Table.TheVariants as tables
 use Rattle.workbench.specs.declared.words.Format.{Format}
-use Rattle.workbench.specs.declared.words.Format.TheVariants.{Hybrid, Thrift}
+use Rattle.workbench.specs.declared.words.Format.TheVariants.{Hybrid, Thrift, Parquet}
 use Rattle.workbench.specs.declared.words.Command.{Command}
 use Rattle.workbench.specs.declared.words.Command.TheVariants.{Time, Read}
 use Rattle.workbench.specs.declared.words.WordsFault.{WordsFault}
@@ -33,22 +38,48 @@ within_width width = if nat_le width 32 then Some width else None
 abbrev pub width_of : List ℕ → Option ℕ
 width_of digits = option_and_then within_width (number_of digits)
 
-abbrev pub unpack_or : Option ℕ → Option ℕ → Option Kernel
-unpack_or (Some width) others = Some (Unpack width)
-unpack_or None (Some width) = Some (Pack width)
-unpack_or None None = None
+-- the first of two kernels that is there
+infixr 4 ◌or◌
+abbrev pub ◌or◌ : Option Kernel → Option Kernel → Option Kernel
+(Some kernel) or others = Some kernel
+None or others = others
 
--- `unpack-W` and `pack-W` name the kernels of the width W
-abbrev pub packing_of : List ℕ → Option Kernel
-packing_of name = unpack_or (option_and_then width_of (after (codes "unpack-") name)) (option_and_then width_of (after (codes "pack-") name))
+-- `longs`, `words`, `texts` and `booleans` name the tables
+abbrev pub table_of : List ℕ → Option Table
+table_of name =
+    if bytes_eq name (codes "longs") then Some tables.Longs
+    else if bytes_eq name (codes "words") then Some tables.Words
+    else if bytes_eq name (codes "texts") then Some tables.Texts
+    else if bytes_eq name (codes "booleans") then Some tables.Booleans
+    else None
+
+-- the kernel of a step that stands before the table's name
+abbrev pub step_kernel : Step → List ℕ → List ℕ → Option Kernel
+step_kernel step front name = option_map (λ table. kernels.Parquet step table) (option_and_then table_of (after front name))
+
+abbrev pub parquet_kernel : List ℕ → Option Kernel
+parquet_kernel name =
+    step_kernel steps.Rows (codes "rows-") name or step_kernel steps.Write (codes "write-") name
+    or step_kernel steps.Copy (codes "copy-") name or step_kernel steps.Read (codes "read-") name
+
+-- `unpack-W` and `pack-W` name the kernels of the width W, `parquet-STEP-TABLE` those of a step and a table
+abbrev pub fronted_kernel : List ℕ → Option Kernel
+fronted_kernel name =
+    option_map (λ width. Unpack width) (option_and_then width_of (after (codes "unpack-") name))
+    or option_map (λ width. Pack width) (option_and_then width_of (after (codes "pack-") name))
+    or option_and_then parquet_kernel (after (codes "parquet-") name)
 
 -- and `log-write` and `log-read` those of commits
 abbrev pub kernel_of : List ℕ → Option Kernel
-kernel_of name = if bytes_eq name (codes "log-write") then Some LogWrite else if bytes_eq name (codes "log-read") then Some LogRead else packing_of name
+kernel_of name = if bytes_eq name (codes "log-write") then Some LogWrite else if bytes_eq name (codes "log-read") then Some LogRead else fronted_kernel name
 
--- `hybrid` and `thrift` name the formats
+-- `hybrid`, `thrift` and `parquet` name the formats
 abbrev pub format_of : List ℕ → Option Format
-format_of name = if bytes_eq name (codes "hybrid") then Some Hybrid else if bytes_eq name (codes "thrift") then Some Thrift else None
+format_of name =
+    if bytes_eq name (codes "hybrid") then Some Hybrid
+    else if bytes_eq name (codes "thrift") then Some Thrift
+    else if bytes_eq name (codes "parquet") then Some Parquet
+    else None
 
 -- the kernel's fault comes first
 abbrev pub time_command : Option Kernel → Option ℕ → Result Command WordsFault

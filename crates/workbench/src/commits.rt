@@ -1,22 +1,22 @@
 //! Commits that are written and read.
 
-use crate::kernels::KernelFault;
+use crate::failed::Failed;
 use log_actions::{Action, AddFile, PartitionMap, read_commit, write_commit};
 use row_base::{NoMemory, Text};
 use std::alloc::{AllocError, Global};
 
 /// Writes a commit of so many added files, and gives the number of its bytes.
-pub fn run_write(alloc: Global, count: u32) -> Result<u64, KernelFault> {
+pub fn run_write(alloc: Global, count: u32) -> Result<u64, Failed> {
     let bytes = commit_text(alloc, count)?;
     Ok(bytes.len() as u64)
 }
 
 /// Writes a commit of so many added files and reads it, and gives the number of its actions.
-pub fn run_read(alloc: Global, count: u32) -> Result<u64, KernelFault> {
+pub fn run_read(alloc: Global, count: u32) -> Result<u64, Failed> {
     let bytes = commit_text(alloc, count)?;
     match read_commit(alloc, &bytes) {
         Ok(actions) => Ok(actions.len() as u64),
-        Err(fault) => Err(KernelFault::Line(fault.line)),
+        Err(fault) => Err(Failed::Line(fault.line)),
     }
 }
 

@@ -3,42 +3,23 @@
 ghost use Rattle.std.specs.Prelude.{◌^◌, ◌<◌};
 
 use crate::commits;
+use crate::failed::Failed;
+use crate::tables;
 use crate::words::Kernel;
 use bit_pack::{PackFault, pack, unpack};
-use row_base::NoMemory;
 use std::alloc::{AllocError, Global};
-use thiserror::Error;
 
 /// How many values a kernel runs over.
 const COUNT: usize = 1 << 22;
 
-/// Why a kernel gave no answer.
-#[derive(Clone, Copy, Debug, Drop, PartialEq, Eq, Error)]
-pub enum KernelFault {
-    /// Values were not packed or unpacked.
-    #[error("{0}")]
-    Pack(PackFault),
-    /// This line of a commit was not read.
-    #[error("line {0} of the commit has no reading")]
-    Line(u32),
-    /// Memory ran out.
-    #[error("out of memory")]
-    NoMemory,
-}
-
-impl From<NoMemory> for KernelFault {
-    fn from(_refused: NoMemory) -> KernelFault {
-        KernelFault::NoMemory
-    }
-}
-
-/// The checksum of so many runs of a kernel, or what it counts of a commit of so many added files.
-pub fn run(alloc: Global, kernel: Kernel, number: u32) -> Result<u64, KernelFault> {
+/// The checksum of so many runs of a kernel, or what it counts of so many rows or added files.
+pub fn run(alloc: Global, kernel: Kernel, number: u32) -> Result<u64, Failed> {
     match kernel {
-        Kernel::Unpack(width) => run_unpack(alloc, width, number).map_err(KernelFault::Pack),
-        Kernel::Pack(width) => run_pack(alloc, width, number).map_err(KernelFault::Pack),
+        Kernel::Unpack(width) => Ok(run_unpack(alloc, width, number)?),
+        Kernel::Pack(width) => Ok(run_pack(alloc, width, number)?),
         Kernel::LogWrite => commits::run_write(alloc, number),
         Kernel::LogRead => commits::run_read(alloc, number),
+        Kernel::Parquet(step, table) => tables::run(alloc, step, table, number),
     }
 }
 

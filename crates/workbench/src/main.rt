@@ -1,18 +1,26 @@
 //! The workbench of the formats.
 //!
-//! `time KERNEL N` runs a kernel N times over data that it makes, and prints a checksum alone. The kernels are
-//! `unpack-W` and `pack-W` for a width W from 0 to 32. `time log-write N` writes a commit of N added files with
-//! statistics, and prints the number of its bytes; `time log-read N` does so, reads it, and prints the number of its
-//! actions. `read FORMAT FILE` prints what a file reads as, or its fault; the formats are `hybrid` (one byte of width,
-//! four bytes of count, lowest first, and then the hybrid) and `thrift` (a struct).
+//! `time KERNEL N` runs a kernel over data that it makes, and prints a number alone. `unpack-W` and `pack-W`, for a width W
+//! from 0 to 32, run N times and print a checksum. `log-write` writes a commit of N added files with statistics and prints
+//! the number of its bytes; `log-read` does so, reads it and prints the number of its actions. `parquet-STEP-TABLE` makes N
+//! rows of a table (`longs`, `words` with a hundred texts, `texts` without repeats, `booleans` with nulls), goes on to the
+//! step (`rows` no further, `write` to the file, `copy` to a copy of its bytes, `read` to the rows that it reads as), and
+//! prints the number of rows or bytes.
+//!
+//! `read FORMAT FILE` prints what a file reads as, or its fault; the formats are `hybrid` (one byte of width, four bytes of
+//! count, lowest first, and then the hybrid), `thrift` (a struct) and `parquet` (a Parquet file, for a table of its own
+//! columns).
 //!
 //! Where the words aren't accepted the status is 2, where the file can't be read or another call fails it is 1, and a
 //! line on standard error says why.
 #![tactic(auto)]
 
 mod commits;
+mod failed;
 mod kernels;
+mod parquet;
 mod reading;
+mod tables;
 #[cfg(test)]
 mod tests;
 mod words;
@@ -20,39 +28,10 @@ mod words;
 ghost use Rattle.std.specs.Prelude.{◌≡◌};
 ghost use Rattle.workbench.specs.Status.{status_of};
 
-use crate::kernels::KernelFault;
+use crate::failed::Failed;
 use crate::words::{Command, WordsFault, command_of};
-use std::alloc::{AllocError, AllocFailed};
 use std::process::ExitCode;
-use std::{env, fs, io};
-use thiserror::Error;
-
-/// Why nothing was printed.
-#[derive(Debug, Drop, Error)]
-enum Failed {
-    #[error("{0}")]
-    Words(WordsFault),
-    #[error("the kernel failed: {0}")]
-    Kernel(KernelFault),
-    #[error("the file can't be read: {0}")]
-    File(io::Error),
-    #[error("the answer can't be printed: {0}")]
-    Print(io::Error),
-    #[error("out of memory")]
-    NoMemory,
-}
-
-impl From<AllocError> for Failed {
-    fn from(_refused: AllocError) -> Failed {
-        Failed::NoMemory
-    }
-}
-
-impl<T: Drop> From<AllocFailed<T>> for Failed {
-    fn from(_refused: AllocFailed<T>) -> Failed {
-        Failed::NoMemory
-    }
-}
+use std::{env, fs};
 
 /// The exit status of a failure.
 fn status_of(failed: &Failed) -> u8
@@ -77,7 +56,7 @@ fn obey(rt: &HostRuntime) -> Result<(), Failed> {
     let command = command_of(word.as_str(), name.as_str(), last.as_str()).map_err(Failed::Words)?;
     match command {
         Command::Time(kernel, number) => {
-            let answer = kernels::run(alloc, kernel, number).map_err(Failed::Kernel)?;
+            let answer = kernels::run(alloc, kernel, number)?;
             println!(rt; "{answer}").map_err(Failed::Print)
         }
         Command::Read(format) => {

@@ -4,6 +4,7 @@ ghost use Rattle.std.specs.Prelude.{◌≡◌, ◌≤◌, ◌*◌, ◌+◌, ◌^
 ghost use Rattle.std.specs.String.{string_bytes};
 ghost use Rattle.workbench.specs.Reading as spec;
 
+use crate::parquet::file_text;
 use crate::words::Format;
 use bit_pack::read_hybrid;
 use std::alloc::{AllocError, Global};
@@ -14,6 +15,7 @@ pub fn text_of(alloc: Global, format: Format, bytes: &[u8]) -> Result<String, Al
     match format {
         Format::Hybrid => hybrid_text(alloc, bytes),
         Format::Thrift => thrift_text(alloc, bytes),
+        Format::Parquet => file_text(alloc, bytes),
     }
 }
 

@@ -12,6 +12,32 @@ use thiserror::Error;
 /// The widest values, in bits.
 const MOST_BITS: u32 = 32;
 
+/// How far a kernel goes with the rows of a table; each step does the ones before it too.
+#[derive(Clone, Copy, Debug, Drop, PartialEq, Eq)]
+pub enum Step {
+    /// `rows`: they are made.
+    Rows,
+    /// `write`: their file is made.
+    Write,
+    /// `copy`: the bytes of the file are copied.
+    Copy,
+    /// `read`: the file is read.
+    Read,
+}
+
+/// A table whose files are timed.
+#[derive(Clone, Copy, Debug, Drop, PartialEq, Eq)]
+pub enum Table {
+    /// `longs`: two columns of longs.
+    Longs,
+    /// `words`: a column of a hundred texts.
+    Words,
+    /// `texts`: a column of texts without repeats.
+    Texts,
+    /// `booleans`: a column of booleans and nulls.
+    Booleans,
+}
+
 /// What is timed.
 #[derive(Clone, Copy, Debug, Drop, PartialEq, Eq)]
 pub enum Kernel {
@@ -23,6 +49,8 @@ pub enum Kernel {
     LogWrite,
     /// `log-read`: its writing and reading.
     LogRead,
+    /// `parquet-STEP-TABLE`: the steps of a table's file.
+    Parquet(Step, Table),
 }
 
 /// What a file is to be read as.
@@ -32,12 +60,14 @@ pub enum Format {
     Hybrid,
     /// `thrift`: a struct in the Thrift compact protocol.
     Thrift,
+    /// `parquet`: a Parquet file.
+    Parquet,
 }
 
 /// What the program is asked to do.
 #[derive(Clone, Copy, Debug, Drop, PartialEq, Eq)]
 pub enum Command {
-    /// To run a kernel so many times, or over a commit of so many added files.
+    /// To run a kernel so many times, or over so many rows or added files.
     Time(Kernel, u32),
     /// To read a file.
     Read(Format),
@@ -53,13 +83,13 @@ pub enum WordsFault {
     #[error("unknown command: use time or read")]
     Command,
     /// No kernel has this name.
-    #[error("unknown kernel: use unpack-W or pack-W, with a width W from 0 to 32, log-write or log-read")]
+    #[error("unknown kernel: use unpack-W, pack-W, log-write, log-read or parquet-STEP-TABLE")]
     Kernel,
-    /// No number of runs or of added files in decimal digits, or one of more than 32 bits.
+    /// No number of runs, rows or added files in decimal digits, or one of more than 32 bits.
     #[error("the last word is no number from 0 to 4294967295")]
     Runs,
     /// No format has this name.
-    #[error("unknown format: use hybrid or thrift")]
+    #[error("unknown format: use hybrid, thrift or parquet")]
     Format,
 }
 
@@ -93,20 +123,69 @@ fn kernel_of(name: &str) -> Option<Kernel>
     match name {
         "log-write" => Some(Kernel::LogWrite),
         "log-read" => Some(Kernel::LogRead),
-        _ => packing_of(name.as_bytes()),
+        _ => fronted_kernel(name.as_bytes()),
     }
 }
 
-/// The kernel of a name with a width.
-fn packing_of(name: &[u8]) -> Option<Kernel>
-    ensures { result ≡ spec.packing_of name.now }
+/// The kernel of a name that has parts behind a front.
+fn fronted_kernel(name: &[u8]) -> Option<Kernel>
+    ensures { result ≡ spec.fronted_kernel name.now }
 {
     if let Some(width) = width_after(b"unpack-", name) {
         return Some(Kernel::Unpack(width));
     }
-    match width_after(b"pack-", name) {
-        Some(width) => Some(Kernel::Pack(width)),
+    if let Some(width) = width_after(b"pack-", name) {
+        return Some(Kernel::Pack(width));
+    }
+    match after(b"parquet-", name) {
+        Some(name) => parquet_kernel(name),
         None => None,
+    }
+}
+
+/// The kernel of a step and a table.
+fn parquet_kernel(name: &[u8]) -> Option<Kernel>
+    ensures { result ≡ spec.parquet_kernel name.now }
+{
+    if let Some(table) = table_after(b"rows-", name) {
+        return Some(Kernel::Parquet(Step::Rows, table));
+    }
+    if let Some(table) = table_after(b"write-", name) {
+        return Some(Kernel::Parquet(Step::Write, table));
+    }
+    if let Some(table) = table_after(b"copy-", name) {
+        return Some(Kernel::Parquet(Step::Copy, table));
+    }
+    match table_after(b"read-", name) {
+        Some(table) => Some(Kernel::Parquet(Step::Read, table)),
+        None => None,
+    }
+}
+
+/// The table that stands behind a front.
+fn table_after(front: &[u8], name: &[u8]) -> Option<Table>
+    ensures { result ≡ option_and_then spec.table_of (spec.after front.now name.now) }
+{
+    match after(front, name) {
+        Some(name) => table_of(name),
+        None => None,
+    }
+}
+
+/// The table of a name.
+fn table_of(name: &[u8]) -> Option<Table>
+    ensures { result ≡ spec.table_of name.now }
+{
+    if name == b"longs".as_slice() {
+        Some(Table::Longs)
+    } else if name == b"words".as_slice() {
+        Some(Table::Words)
+    } else if name == b"texts".as_slice() {
+        Some(Table::Texts)
+    } else if name == b"booleans".as_slice() {
+        Some(Table::Booleans)
+    } else {
+        None
     }
 }
 
@@ -117,6 +196,7 @@ fn format_of(name: &str) -> Option<Format>
     match name {
         "hybrid" => Some(Format::Hybrid),
         "thrift" => Some(Format::Thrift),
+        "parquet" => Some(Format::Parquet),
         _ => None,
     }
 }

@@ -1,0 +1,54 @@
+//! Why nothing was printed.
+
+use crate::words::WordsFault;
+use bit_pack::PackFault;
+use parquet_meta::FileFault;
+use row_base::NoMemory;
+use std::alloc::{AllocError, AllocFailed};
+use std::io;
+use thiserror::Error;
+
+/// Why nothing was printed.
+#[derive(Debug, Drop, Error)]
+pub enum Failed {
+    #[error("{0}")]
+    Words(WordsFault),
+    #[error("the kernel failed: {0}")]
+    Kernel(PackFault),
+    #[error("line {0} of the commit has no reading")]
+    Line(u32),
+    #[error("no file holds these rows")]
+    Rows,
+    #[error("the file that was written can't be read: {0}")]
+    Parquet(FileFault),
+    #[error("the file can't be read: {0}")]
+    File(io::Error),
+    #[error("the answer can't be printed: {0}")]
+    Print(io::Error),
+    #[error("out of memory")]
+    NoMemory,
+}
+
+impl From<AllocError> for Failed {
+    fn from(_refused: AllocError) -> Failed {
+        Failed::NoMemory
+    }
+}
+
+impl<T: Drop> From<AllocFailed<T>> for Failed {
+    fn from(_refused: AllocFailed<T>) -> Failed {
+        Failed::NoMemory
+    }
+}
+
+impl From<NoMemory> for Failed {
+    fn from(_refused: NoMemory) -> Failed {
+        Failed::NoMemory
+    }
+}
+
+impl From<PackFault> for Failed {
+    fn from(fault: PackFault) -> Failed {
+        Failed::Kernel(fault)
+    }
+}
