@@ -2,10 +2,9 @@
 
 ghost use Rattle.std.specs.Prelude.{◌^◌, ◌<◌};
 
-use crate::commits;
 use crate::failed::Failed;
-use crate::tables;
 use crate::words::Kernel;
+use crate::{commits, tables};
 use bit_pack::{PackFault, pack, unpack};
 use std::alloc::{AllocError, Global};
 

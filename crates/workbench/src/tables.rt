@@ -16,6 +16,7 @@ const MOST_ROWS: usize = 16_777_216;
 
 /// The first and the last day of a date.
 const FIRST_DAY: i32 = -719_162;
+
 const LAST_DAY: i32 = 2_932_896;
 
 /// How many texts the table of repeated texts has.
@@ -138,7 +139,13 @@ fn words_of(alloc: Global) -> Result<Vec<Text>, Failed> {
 }
 
 /// The row of a number and a random state.
-fn row_of(alloc: Global, table: Table, number: u32, state: u64, words: &[Text]) -> Result<Row, Failed> {
+fn row_of(
+    alloc: Global,
+    table: Table,
+    number: u32,
+    state: u64,
+    words: &[Text],
+) -> Result<Row, Failed> {
     let mut row = Vec::with_capacity(alloc, 2)?;
     match table {
         Table::Longs => {
@@ -149,7 +156,9 @@ fn row_of(alloc: Global, table: Table, number: u32, state: u64, words: &[Text]) 
             Some(word) => row.push(Datum::Text(word.copy()?))?,
             None => return Err(Failed::Rows),
         },
-        Table::Texts => row.push(Datum::Text(Text::from_string(format!(in alloc; "text {number} {state}")?)?))?,
+        Table::Texts => row.push(Datum::Text(Text::from_string(format!(in alloc;
+            "text {number} {state}"
+        )?)?))?,
         Table::Booleans => row.push(match state % 3 {
             0 => Datum::Null,
             rest => Datum::Boolean(rest == 1),
