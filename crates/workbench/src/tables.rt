@@ -67,11 +67,11 @@ fn are_writable(schema: &Schema, rows: &[Row]) -> bool
     true
 }
 
-/// Whether a file holds the data.
-fn are_storable(data: &[Datum]) -> bool
-    ensures { result ≡ true → All IsStorable data.now }
+/// Whether a file holds each of these values.
+fn are_storable(values: &[Datum]) -> bool
+    ensures { result ≡ true → All IsStorable values.now }
 {
-    for datum in data {
+    for datum in values {
         if !is_storable(datum) {
             return false;
         }
