@@ -1,5 +1,5 @@
 -- What tells the names of a table apart.
-use Rattle.std.proofs.Common.{◌≡◌, ◌≢◌, ℕ, Bool, true, false, if◌then◌else◌, ◌^◌, ◌<◌, List, [], ◌∷◌, ◌++◌, length, take, drop, codes, get_or, All, nat_lt, ◌&&◌, Option, Some, None, refl, sym, ap, ◌∙◌, append_assoc, length-append, arith}
+use Rattle.std.proofs.Common.{◌≡◌, ◌≢◌, ℕ, Bool, true, false, if◌then◌else◌, ◌^◌, ◌<◌, List, [], ◌∷◌, ◌++◌, ◌-◌, length, take, drop, codes, get_or, All, nat_lt, ◌&&◌, Option, Some, None, refl, sym, ap, ◌∙◌, append_assoc, length-append, arith}
 use Rattle.std.specs.Str.{bytes_eq}
 use Rattle.std.specs.List.{list_all}
 use Rattle.std.specs.Str.Parse.{digits_value, AllDigits}
@@ -10,8 +10,8 @@ use Rattle.std.proofs.lemmas.List.{take_at, drop_at, take-append-drop, get_or_de
 use Rattle.std.proofs.lemmas.Slice.Eq.{bytes_eq-Decides}
 use Rattle.table_rules.specs.declared.log.LogName.TheVariants.{Commit, CheckpointJson, CheckpointOther, Hint, OtherLog}
 use Rattle.table_rules.specs.Digits.{padded, five_or_more, number_in}
-use Rattle.table_rules.specs.Names.{log_prefix, after, between, holds_of, is_id, is_id_or_part, of_version, with_version, in_log, behind_prefix, id_number, id_text, statement_text}
-use Rattle.table_rules.specs.Told.{CommitsDiffer, CommitIsRead, OnlyCommitIsRead, CommitIsInLog, DataIsOutside, DataIsNoCommit, DataDiffer, IsGraphic, DataIsGraphic}
+use Rattle.table_rules.specs.Names.{log_prefix, after, before, between, holds_of, is_id, is_id_or_part, of_version, with_version, in_log, behind_prefix, id_number, id_text, statement_text}
+use Rattle.table_rules.specs.Told.{CommitsDiffer, CommitIsRead, CheckpointIsRead, OnlyCommitIsRead, CommitIsInLog, DataIsOutside, DataIsNoCommit, DataDiffer, IsGraphic, DataIsGraphic}
 use Rattle.table_rules.proofs.Numerals.{padded_same, length-padded, number-padded, number_is, some_then, value-five_or_more, digits-five_or_more}
 use Rattle.table_rules.proofs.Ids.{same_id, same_parts, id_small, length-id, id_graphic}
 
@@ -31,6 +31,30 @@ commit_is_read v lt =
     (apart_lengths (padded 20 v ++ codes ".json") (codes "_last_checkpoint") (λ e. omega (arith, e, length-append (padded 20 v) (codes ".json"), length-padded 20 v)))
     (ap (number_in 20) (take_at (padded 20 v) (codes ".json") 20 (length-padded 20 v)) ∙ number-padded v lt)
     (drop_at (padded 20 v) (codes ".json") 20 (length-padded 20 v))
+
+before_end : (front end : List ℕ) → before end (front ++ end) ≡ Some front
+before_end front end =
+    let at : length (front ++ end) - length end ≡ length front = omega (arith, length-append front end) in
+    let rest : drop (length (front ++ end) - length end) (front ++ end) ≡ end = ap (λ n. drop n (front ++ end)) at ∙ drop_at front end (length front) refl in
+    let first : take (length (front ++ end) - length end) (front ++ end) ≡ front = ap (λ n. take n (front ++ end)) at ∙ take_at front end (length front) refl in
+    let same : bytes_eq (drop (length (front ++ end) - length end) (front ++ end)) end ≡ true = (bytes_eq-Decides (drop (length (front ++ end) - length end) (front ++ end)) end).1 rest in
+    rw (same, first) refl
+
+checkpoint_by : (v : ℕ) (end id : List ℕ) → bytes_eq end (codes ".json") ≡ false → between (codes ".checkpoint.") (codes ".json") end ≡ Some id → is_id id ≡ true
+    → of_version v end ≡ CheckpointJson v
+checkpoint_by v end id other is h = rw (other, is, h) refl
+
+pub checkpoint_is_read : CheckpointIsRead
+checkpoint_is_read v id lt h =
+    in_log_by (padded 20 v ++ (codes ".checkpoint." ++ (id ++ codes ".json"))) (codes ".checkpoint." ++ (id ++ codes ".json")) (Some v)
+    (apart_lengths (padded 20 v ++ (codes ".checkpoint." ++ (id ++ codes ".json"))) (codes "_last_checkpoint")
+    (λ e. omega (arith, e, length-append (padded 20 v) (codes ".checkpoint." ++ (id ++ codes ".json")), length-append (codes ".checkpoint.") (id ++ codes ".json"), length-append id (codes ".json"), length-padded 20 v)))
+    (ap (number_in 20) (take_at (padded 20 v) (codes ".checkpoint." ++ (id ++ codes ".json")) 20 (length-padded 20 v)) ∙ number-padded v lt)
+    (drop_at (padded 20 v) (codes ".checkpoint." ++ (id ++ codes ".json")) 20 (length-padded 20 v))
+    ∙ checkpoint_by v (codes ".checkpoint." ++ (id ++ codes ".json")) id
+    (apart_lengths (codes ".checkpoint." ++ (id ++ codes ".json")) (codes ".json")
+    (λ e. omega (arith, e, length-append (codes ".checkpoint.") (id ++ codes ".json"), length-append id (codes ".json"))))
+    (before_end id (codes ".json")) h
 
 not_then : {A : Type 0} (b : Bool) (x y z : A) → (x ≡ z → ⊥) → (if b then x else y) ≡ z → (b ≡ false) × (y ≡ z)
 not_then true x y z apart e = absurd (apart e)

@@ -13,9 +13,20 @@ use Rattle.table_rules.specs.declared.log.LogName.TheVariants.{Commit, Checkpoin
 abbrev pub log_prefix : List ℕ
 log_prefix = codes "_delta_log/"
 
+-- a name of the log that begins with a version
+abbrev pub version_text : ℕ → List ℕ → List ℕ
+version_text version end = log_prefix ++ (padded 20 version ++ end)
+
 -- the name of a version's commit (PROTOCOL.md, "Delta Log Entries")
 abbrev pub commit_text : ℕ → List ℕ
-commit_text version = log_prefix ++ (padded 20 version ++ codes ".json")
+commit_text version = version_text version (codes ".json")
+
+-- the name of a version's checkpoint in JSON with this identifier (PROTOCOL.md, "Checkpoints")
+abbrev pub checkpoint_end : List ℕ → List ℕ
+checkpoint_end id = codes ".checkpoint." ++ (id ++ codes ".json")
+
+abbrev pub checkpoint_text : ℕ → List ℕ → List ℕ
+checkpoint_text version id = version_text version (checkpoint_end id)
 
 -- what follows a front
 abbrev pub after : List ℕ → List ℕ → Option (List ℕ)

@@ -2,8 +2,8 @@
 use Rattle.std.specs.Prelude.{◌≡◌, ◌≢◌, ◌<◌, ◌%◌, ◌^◌, ◌++◌, ℕ, List, All, true, nat_eq}
 use Rattle.std.specs.List.{starts_with}
 use Rattle.edge_api.specs.declared.call.Tag.{Tag}
-use Rattle.table_rules.specs.Names.{log_prefix, commit_text, log_name, data_text}
-use Rattle.table_rules.specs.declared.log.LogName.TheVariants.{Commit, Outside}
+use Rattle.table_rules.specs.Names.{log_prefix, commit_text, checkpoint_text, is_id, log_name, data_text}
+use Rattle.table_rules.specs.declared.log.LogName.TheVariants.{Commit, CheckpointJson, Outside}
 
 -- versions whose commits have one name are one
 abbrev pub CommitsDiffer : Type 0
@@ -16,6 +16,10 @@ CommitIsRead = (v : ℕ) → v < 2 ^ 64 → log_name (commit_text v) ≡ Commit 
 -- what reads as a commit is this commit's name
 abbrev pub OnlyCommitIsRead : Type 0
 OnlyCommitIsRead = (name : List ℕ) (v : ℕ) → log_name name ≡ Commit v → (name ≡ commit_text v) × (v < 2 ^ 64)
+
+-- a checkpoint's name reads as a checkpoint of its version
+abbrev pub CheckpointIsRead : Type 0
+CheckpointIsRead = (v : ℕ) (id : List ℕ) → v < 2 ^ 64 → is_id id ≡ true → log_name (checkpoint_text v id) ≡ CheckpointJson v
 
 -- a commit's name stands in the log
 abbrev pub CommitIsInLog : Type 0

@@ -1,10 +1,11 @@
 //! Names of the log.
-ghost use Rattle.std.specs.Prelude.{◌≡◌, ◌==◌, ◌||◌, not, IfOk, option_copied, codes, take, drop};
+ghost use Rattle.std.specs.Prelude.{◌≡◌, ◌==◌, ◌||◌, not, true, IfOk, string_bytes, option_copied, codes, take, drop};
 ghost use Rattle.std.specs.List.{list_all};
 ghost use Rattle.table_rules.specs.Names as spec;
 
 use crate::digits::{number_of, padded_digits};
 use edge_api::Name;
+use row_base::Text;
 use std::alloc::{AllocError, Global};
 
 /// What each name of the log begins with.
@@ -34,15 +35,37 @@ pub fn log_prefix(alloc: Global) -> Result<Name, AllocError>
     Name::make(alloc, LOG_PREFIX)
 }
 
-/// The name of a version's commit. The error is want of memory.
-pub fn commit_name(alloc: Global, version: u64) -> Result<Name, AllocError>
-    ensures { IfOk result (λ name. name ≡ spec.commit_text version) }
+fn version_name(alloc: Global, version: u64, end: &str) -> Result<Name, AllocError>
+    ensures { IfOk result (λ name. name ≡ spec.version_text version end.now) }
 {
     let digits = padded_digits::<20>(version);
     let mut name = String::from_str(alloc, LOG_PREFIX)?;
     name.push_str(str::from_utf8(&digits).unwrap())?;
-    name.push_str(".json")?;
+    name.push_str(end)?;
     Name::from_string(alloc, name)
+}
+
+/// The name of a version's commit. The error is want of memory.
+pub fn commit_name(alloc: Global, version: u64) -> Result<Name, AllocError>
+    ensures { IfOk result (λ name. name ≡ spec.commit_text version) }
+{
+    version_name(alloc, version, ".json")
+}
+
+fn checkpoint_end(alloc: Global, id: &str) -> Result<String, AllocError>
+    ensures { IfOk result (λ end. string_bytes end ≡ spec.checkpoint_end id.now) }
+{
+    format!(in alloc; ".checkpoint.{id}.json")
+}
+
+/// The name of a version's checkpoint in JSON (PROTOCOL.md, "Checkpoints"). Its identifier has one character or more,
+/// and neither a dot nor a slash. The error is want of memory.
+pub fn checkpoint_name(alloc: Global, version: u64, id: &Text) -> Result<Name, AllocError>
+    requires { spec.is_id id.now ≡ true }
+    ensures { IfOk result (λ name. name ≡ spec.checkpoint_text version id.now) }
+{
+    let end = checkpoint_end(alloc, id.as_str())?;
+    version_name(alloc, version, end.as_str())
 }
 
 fn after<'a>(front: &[u8], text: &'a [u8]) -> Option<&'a [u8]>

@@ -1,6 +1,6 @@
 use crate::{
-    FeatureFault, Level, LogName, Rules, accepts, commit_name, data_file_name, log_prefix,
-    read_interval, read_log_name, rules_of, statement_id,
+    FeatureFault, Level, LogName, Rules, accepts, checkpoint_name, commit_name, data_file_name,
+    log_prefix, read_interval, read_log_name, rules_of, statement_id,
 };
 use edge_api::{Name, Tag};
 use log_actions::{Entry, Feature, Format, MetaData, Protocol, TextMap};
@@ -18,6 +18,15 @@ fn commits_and_identifiers_have_their_texts(rt: HostRuntime) -> Result<(), Fail>
     assert_eq!(rt; commit.as_str(), "_delta_log/00000000000000000012.json");
     let id = statement_id(rt.alloc(), tag, 1_700_000_000_000)?;
     assert_eq!(rt; id.as_str(), "018bcfe5-6800-8000-8000-00010000000c");
+    let checkpoint = checkpoint_name(
+        rt.alloc(),
+        12,
+        &Text::make(rt.alloc(), "018bcfe5-6800-8000-8000-00010000000c")?,
+    )?;
+    assert_eq!(rt;
+        checkpoint.as_str(),
+        "_delta_log/00000000000000000012.checkpoint.018bcfe5-6800-8000-8000-00010000000c.json"
+    );
     let prefix = log_prefix(rt.alloc())?;
     assert_eq!(rt; prefix.as_str(), "_delta_log/");
     Ok(())
