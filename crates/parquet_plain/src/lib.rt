@@ -17,6 +17,6 @@ mod tests;
 mod tree;
 mod writing;
 
-pub use laws::files_are_read;
+pub use laws::{files_are_read, files_read_back};
 pub use reading::read_file;
 pub use writing::write_file;

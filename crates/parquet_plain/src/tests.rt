@@ -1,6 +1,6 @@
 //! Files written by hand after the format, written ones, and damaged ones.
 
-ghost use Rattle.std.specs.Prelude.{◌≡◌, ◌≤ℤ◌, pos, true};
+ghost use Rattle.std.specs.Prelude.{◌↔◌, ◌≤ℤ◌, pos, IsTrue};
 ghost use Rattle.std.specs.List.{All};
 ghost use Rattle.row_base.specs.Schema.{FitsSchema};
 
@@ -90,16 +90,18 @@ fn long_rows(alloc: Global, numbers: &[i64]) -> Result<Vec<Row>, NoMemory> {
     Ok(rows)
 }
 
+/// Whether a row fits.
+fn fits(schema: &Schema, row: &Row) -> bool
+    ensures { IsTrue result ↔ FitsSchema schema.now row.now }
+{
+    schema.fits(row).is_ok()
+}
+
 /// Whether each row fits.
 fn all_fit(schema: &Schema, rows: &[Row]) -> bool
-    ensures { result ≡ true → All (FitsSchema schema.now) rows.now }
+    ensures { IsTrue result ↔ All (FitsSchema schema.now) rows.now }
 {
-    for row in rows {
-        if schema.fits(row).is_err() {
-            return false;
-        }
-    }
-    true
+    rows.iter().all(|row| fits(schema, row))
 }
 
 /// The file of these rows, or nothing where one doesn't fit.
