@@ -13,3 +13,4 @@ pub mod ChunkBack
 pub mod GroupBack
 pub mod TreeBack
 pub mod FileBack
+pub mod Cells

@@ -9,6 +9,7 @@ mod groups;
 mod laws;
 mod page_writer;
 mod pages;
+mod plain;
 mod reading;
 mod rows;
 mod source;
