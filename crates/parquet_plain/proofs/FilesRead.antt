@@ -118,7 +118,7 @@ file_found s file rows e =
       few = g.3;
     }
 
-file_only : (s : TableSchema) (file : List ℕ) (rows : List (List Datum)) → FileRows s file rows → file_rows s file ≡ Ok rows
+pub file_only : (s : TableSchema) (file : List ℕ) (rows : List (List Datum)) → FileRows s file rows → file_rows s file ≡ Ok rows
 unfolding file_rows
 file_only s file rows h =
     let name = first_name s.partition 0 s.columns in
