@@ -1,12 +1,11 @@
 //! Dictionaries of chunks (Parquet format, Encodings.md, "Dictionary Encoding (PLAIN_DICTIONARY = 2 and RLE_DICTIONARY =
 //! 8)").
-ghost use Rattle.std.specs.Prelude.{false, ◌≡◌, ◌==◌, ◌^◌, ◌<◌, ◌≤◌, ◌+◌, ◌++◌, ◌∷◌, [], ℕ, true, length, slice_index, EachIndex, if◌then◌else◌, not, ◌||◌, nat_le, is_some, vec_len, Some, None, Bool, IfSome, IfOk, OnOk};
+ghost use Rattle.std.specs.Prelude.{false, ◌≡◌, ◌==◌, ◌^◌, ◌<◌, ◌≤◌, ◌+◌, ◌++◌, ◌∷◌, [], true, length, slice_index, EachIndex, if◌then◌else◌, not, ◌||◌, nat_le, is_some, Some, None, Bool, IfSome, IfOk, OnOk};
 ghost use Rattle.std.specs.List.{All};
 ghost use Rattle.std.specs.Ordering.{is_eq};
 ghost use Rattle.bit_pack.specs.Bits.{most_values};
 ghost use Rattle.bit_pack.specs.Hybrid.{hybrid_of};
 ghost use Rattle.row_base.specs.RowOrder.{datum_cmp};
-ghost use Rattle.row_base.specs.Schema.{is_of_kind};
 ghost use Rattle.row_base.specs.declared.row.Datum.{Datum as ADatum};
 ghost use Rattle.parquet_pages.specs.Places as spec;
 ghost use Rattle.parquet_pages.specs.Written as written;

@@ -3,7 +3,6 @@
 ghost use Rattle.std.specs.Prelude.{◌≡◌, ◌≤◌, true};
 ghost use Rattle.std.specs.List.{All};
 ghost use Rattle.row_base.specs.Schema.{FitsSchema};
-ghost use Rattle.parquet_plain.specs.Written.{IsStorable};
 
 use crate::failed::Failed;
 use crate::words::{Step, Table};
@@ -47,47 +46,23 @@ pub fn run(alloc: Global, step: Step, table: Table, count: u32) -> Result<u64, F
 
 /// The file of rows, where a file holds them.
 fn file_of(alloc: Global, schema: &Schema, rows: &[Row]) -> Result<Vec<u8>, Failed> {
-    if rows.len() <= MOST_ROWS && are_writable(schema, rows) {
+    if rows.len() <= MOST_ROWS && fit(schema, rows) {
         Ok(write_file(schema, rows, alloc)?)
     } else {
         Err(Failed::Rows)
     }
 }
 
-/// Whether each row fits, and a file holds its data.
-fn are_writable(schema: &Schema, rows: &[Row]) -> bool
-    ensures fits { result ≡ true → All (FitsSchema schema.now) rows.now }
-    ensures storable { result ≡ true → All (All IsStorable) rows.now }
+/// Whether each row fits.
+fn fit(schema: &Schema, rows: &[Row]) -> bool
+    ensures { result ≡ true → All (FitsSchema schema.now) rows.now }
 {
     for row in rows {
-        if schema.fits(row).is_err() || !are_storable(row.as_slice()) {
+        if schema.fits(row).is_err() {
             return false;
         }
     }
     true
-}
-
-/// Whether a file holds each of these values.
-fn are_storable(values: &[Datum]) -> bool
-    ensures { result ≡ true → All IsStorable values.now }
-{
-    for datum in values {
-        if !is_storable(datum) {
-            return false;
-        }
-    }
-    true
-}
-
-/// Whether a file holds a datum: a text of at most 65,535 bytes, a date of the years 1 to 9999, or any other.
-fn is_storable(datum: &Datum) -> bool
-    ensures { result ≡ true → IsStorable datum.now }
-{
-    match datum {
-        Datum::Text(text) => text.as_str().len() <= 65_535,
-        Datum::Date(day) => FIRST_DAY <= *day && *day <= LAST_DAY,
-        _ => true,
-    }
 }
 
 /// The schema of a table.
