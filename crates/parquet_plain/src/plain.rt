@@ -86,9 +86,9 @@ fn plain_groups(
 /// The rows of a Parquet file, as `read_file` reads them.
 #[tactic(auto, unfolding(crate::specs::Reading::file_rows))]
 pub(crate) fn plain_file(
+    alloc: Global,
     schema: &Schema,
     bytes: &[u8],
-    alloc: Global,
 ) -> Result<Vec<Row>, FileFault>
     ensures { MatchResult result (λ v. spec.file_rows schema.now bytes.now ≡ Ok v.items) (λ e. FaultOf e (spec.file_rows schema.now bytes.now)) }
 {

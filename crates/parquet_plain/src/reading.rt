@@ -23,7 +23,7 @@ pub(crate) fn first_name(alloc: Global, schema: &Schema) -> Result<Text, NoMemor
 
 /// The rows of a Parquet file for a table of this schema.
 #[tactic(auto, unfolding(crate::specs::Reading::file_rows))]
-pub fn read_file(schema: &Schema, bytes: &[u8], alloc: Global) -> Result<Vec<Row>, FileFault>
+pub fn read_file(alloc: Global, schema: &Schema, bytes: &[u8]) -> Result<Vec<Row>, FileFault>
     ensures { MatchResult result (λ v. spec.file_rows schema.now bytes.now ≡ Ok v.items) (λ e. FaultOf e (spec.file_rows schema.now bytes.now)) }
 {
     let meta = read_footer(alloc, bytes)?;

@@ -57,7 +57,7 @@ fn wrong(fault: &FileFault) -> Outcome {
 }
 
 fn ending(alloc: Global, schema: &Schema, bytes: &[u8]) -> Outcome {
-    match read_file(schema, bytes, alloc) {
+    match read_file(alloc, schema, bytes) {
         Ok(_) => Outcome::Read,
         Err(fault) => wrong(&fault),
     }
@@ -108,7 +108,7 @@ fn all_fit(schema: &Schema, rows: &[Row]) -> bool
 /// The file of these rows, or nothing where one doesn't fit.
 fn written(alloc: Global, schema: &Schema, rows: &[Row]) -> Result<Vec<u8>, NoMemory> {
     if rows.len() <= 16_777_216 && all_fit(schema, rows) {
-        write_file(schema, rows, alloc)
+        write_file(alloc, schema, rows)
     } else {
         Ok(Vec::new(alloc))
     }
@@ -124,8 +124,8 @@ fn are_rows(read: Result<Vec<Row>, FileFault>, rows: &[Row]) -> bool {
 
 /// Whether a file reads as these rows, by the plain reader too.
 fn reads(alloc: Global, schema: &Schema, bytes: &[u8], rows: &[Row]) -> bool {
-    are_rows(read_file(schema, bytes, alloc), rows)
-        && are_rows(plain_file(schema, bytes, alloc), rows)
+    are_rows(read_file(alloc, schema, bytes), rows)
+        && are_rows(plain_file(alloc, schema, bytes), rows)
 }
 
 #[test]

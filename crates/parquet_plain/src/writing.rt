@@ -53,7 +53,7 @@ fn meta_of(
 
 /// The Parquet file of these rows, without the partition columns.
 #[tactic(auto, unfolding(crate::specs::Written::file_text))]
-pub fn write_file(schema: &Schema, rows: &[Row], alloc: Global) -> Result<Vec<u8>, NoMemory>
+pub fn write_file(alloc: Global, schema: &Schema, rows: &[Row]) -> Result<Vec<u8>, NoMemory>
     requires few { length rows.now ≤ 16777216 }
     requires fits { All (FitsSchema schema.now) rows.now }
     ensures { IfOk result (λ v. v.items ≡ spec.file_text schema.now rows.now) }

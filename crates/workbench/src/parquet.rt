@@ -27,7 +27,7 @@ fn rows_text(alloc: Global, count: usize, nulls: u64) -> Result<String, AllocErr
 fn rows_in(alloc: Global, bytes: &[u8]) -> Result<Option<Vec<Row>>, FileFault> {
     let meta = read_footer(alloc, bytes)?;
     match schema_of(alloc, meta.schema.as_slice())? {
-        Some(schema) => Ok(Some(read_file(&schema, bytes, alloc)?)),
+        Some(schema) => Ok(Some(read_file(alloc, &schema, bytes)?)),
         None => Ok(None),
     }
 }

@@ -13,11 +13,6 @@ use std::alloc::{AllocError, Global};
 /// The most rows of a file.
 const MOST_ROWS: usize = 16_777_216;
 
-/// The first and the last day of a date.
-const FIRST_DAY: i32 = -719_162;
-
-const LAST_DAY: i32 = 2_932_896;
-
 /// How many texts the table of repeated texts has.
 const WORDS: u64 = 100;
 
@@ -38,7 +33,7 @@ pub fn run(alloc: Global, step: Step, table: Table, count: u32) -> Result<u64, F
             Ok(copy.len() as u64)
         }
         Step::Read => {
-            let rows = read_file(&schema, bytes.as_slice(), alloc).map_err(Failed::Parquet)?;
+            let rows = read_file(alloc, &schema, bytes.as_slice()).map_err(Failed::Parquet)?;
             Ok(rows.len() as u64)
         }
     }
@@ -47,7 +42,7 @@ pub fn run(alloc: Global, step: Step, table: Table, count: u32) -> Result<u64, F
 /// The file of rows, where a file holds them.
 fn file_of(alloc: Global, schema: &Schema, rows: &[Row]) -> Result<Vec<u8>, Failed> {
     if rows.len() <= MOST_ROWS && fit(schema, rows) {
-        Ok(write_file(schema, rows, alloc)?)
+        Ok(write_file(alloc, schema, rows)?)
     } else {
         Err(Failed::Rows)
     }
