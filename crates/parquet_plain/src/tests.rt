@@ -314,6 +314,22 @@ fn foreign_files_are_read(rt: HostRuntime) -> Result<(), Fail> {
 }
 
 #[test]
+fn columns_are_found_by_name(rt: HostRuntime) -> Result<(), Fail> {
+    let alloc = rt.alloc();
+    let number = column(alloc, "id", Kind::Long, false)?;
+    let text = column(alloc, "v", Kind::String, true)?;
+    let schema = schema_of(
+        vec![in alloc; number.copy()?, text.copy()?]?,
+        Vec::new(alloc),
+    )?;
+    let turned = schema_of(vec![in alloc; text, number]?, Vec::new(alloc))?;
+    let row = Row::make(vec![in alloc; Datum::Long(7), Datum::Null]?);
+    let file = written(alloc, &schema, &vec![in alloc; row]?)?;
+    assert!(rt; reads(alloc, &turned, &file, &null_rows(alloc, &[7])?));
+    Ok(())
+}
+
+#[test]
 fn columns_that_cannot_be_read_are_refused(rt: HostRuntime) -> Result<(), Fail> {
     let alloc = rt.alloc();
     let file = foreign_file(alloc, 7, 9)?;
