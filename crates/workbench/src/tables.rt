@@ -1,6 +1,6 @@
 //! Tables whose Parquet files are timed.
 
-ghost use Rattle.std.specs.Prelude.{◌≡◌, ◌≤◌, true};
+ghost use Rattle.std.specs.Prelude.{◌↔◌, IsTrue};
 ghost use Rattle.std.specs.List.{All};
 ghost use Rattle.row_base.specs.Schema.{FitsSchema};
 
@@ -8,7 +8,7 @@ use crate::failed::Failed;
 use crate::words::{Step, Table};
 use parquet_plain::{read_file, write_file};
 use row_base::{Column, Datum, Kind, NoMemory, Row, Schema, Text};
-use std::alloc::{AllocError, Global};
+use std::alloc::Global;
 
 /// The most rows of a file.
 const MOST_ROWS: usize = 16_777_216;
@@ -41,23 +41,25 @@ pub fn run(alloc: Global, step: Step, table: Table, count: u32) -> Result<u64, F
 
 /// The file of rows, where a file holds them.
 fn file_of(alloc: Global, schema: &Schema, rows: &[Row]) -> Result<Vec<u8>, Failed> {
-    if rows.len() <= MOST_ROWS && fit(schema, rows) {
+    if rows.len() <= MOST_ROWS && all_fit(schema, rows) {
         Ok(write_file(alloc, schema, rows)?)
     } else {
         Err(Failed::Rows)
     }
 }
 
-/// Whether each row fits.
-fn fit(schema: &Schema, rows: &[Row]) -> bool
-    ensures { result ≡ true → All (FitsSchema schema.now) rows.now }
+/// Whether a row fits.
+fn fits(schema: &Schema, row: &Row) -> bool
+    ensures { IsTrue result ↔ FitsSchema schema.now row.now }
 {
-    for row in rows {
-        if schema.fits(row).is_err() {
-            return false;
-        }
-    }
-    true
+    schema.fits(row).is_ok()
+}
+
+/// Whether each row fits.
+fn all_fit(schema: &Schema, rows: &[Row]) -> bool
+    ensures { IsTrue result ↔ All (FitsSchema schema.now) rows.now }
+{
+    rows.iter().all(|row| fits(schema, row))
 }
 
 /// The schema of a table.
