@@ -40,7 +40,7 @@ columns_beside (vs ∷ vss) g count =
     ap (λ rs. with_columns rs vss) (column_beside g vs 0 count)
     ∙ columns_beside vss (λ k. g k ++ get_or vs k datum.Null ∷ []) count
     ∙ same_table (λ k. (g k ++ get_or vs k datum.Null ∷ []) ++ row_at k vss) (λ k. g k ++ get_or vs k datum.Null ∷ row_at k vss) 0 count
-      (λ k. append_assoc (g k) (get_or vs k datum.Null ∷ []) (row_at k vss))
+    (λ k. append_assoc (g k) (get_or vs k datum.Null ∷ []) (row_at k vss))
 
 abbrev bare : ℕ → List Datum
 bare k = []

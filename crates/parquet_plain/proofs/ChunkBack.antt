@@ -173,14 +173,14 @@ pages_back c l file d [] at leaf small few each s = done (omega arith) refl
 pages_back c l file d (vs ∷ vss) at leaf small few each s =
     let p = page_back c file at d vs (stands_first file at (page_of c d vs) (pages_of c d vss) s) small few each.0 in
     let read : page_values l.kind l.optional p.page file d ≡ Ok vs
-      = ap (λ k. page_values k l.optional p.page file d) leaf.kind ∙ ap (λ o. page_values c.kind o p.page file d) leaf.optional ∙ p.read in
+    = ap (λ k. page_values k l.optional p.page file d) leaf.kind ∙ ap (λ o. page_values c.kind o p.page file d) leaf.optional ∙ p.read in
     let rest = pages_back c l file d vss (at + length (page_of c d vs)) leaf small few each.1 (stands_second file at (page_of c d vs) (pages_of c d vss) s) in
     let end : (at + length (page_of c d vs)) + length (pages_of c d vss) ≡ at + length (page_of c d vs ++ pages_of c d vss)
-      = omega (arith, length-append (page_of c d vs) (pages_of c d vss)) in
+    = omega (arith, length-append (page_of c d vs) (pages_of c d vss)) in
     next p.page vs (joined vss) p.head (page_only l.kind l.optional p.page file d vs read)
     (λ o n. absurd (let k : true ≡ false = sym o ∙ leaf.optional ∙ sym leaf.nullable ∙ n in cc))
     (subst (λ m. DataPages l file d m (at + length (page_of c d vs ++ pages_of c d vss)) (joined vss)) (sym p.ends)
-      (subst (λ m. DataPages l file d (at + length (page_of c d vs)) m (joined vss)) end rest))
+    (subst (λ m. DataPages l file d (at + length (page_of c d vs)) m (joined vss)) end rest))
     refl
 
 pub parts_each : {A : Type 0} (K P : List A → Type 0) (size : ℕ) → ((xs : List A) → K xs → P (take size xs)) → ((xs : List A) → K xs → K (drop size xs))
@@ -283,7 +283,7 @@ chunk_back : (c : Column) (l : Leaf) (file : List ℕ) (d : Option (List Datum))
 unfolding chunk_text_by front_of
 chunk_back c l file None values at leaf small w s =
     plain (subst (DataPages l file None at (at + length (pages_of c None (parts_of page_values_most values)))) (all_joined values)
-      (pages_back c l file None (parts_of page_values_most values) at leaf small w.few (parts_fit c None values w) s))
+    (pages_back c l file None (parts_of page_values_most values) at leaf small w.few (parts_fit c None values w) s))
 chunk_back c l file (Some ds) values at leaf small w s =
     let front = dictionary_page (length ds) (dictionary_text c.kind ds) in
     let pages = pages_of c (Some ds) (parts_of page_values_most values) in
@@ -293,8 +293,8 @@ chunk_back c l file (Some ds) values at leaf small w s =
     let end : (at + length front) + length pages ≡ at + length (front ++ pages) = omega (arith, length-append front pages) in
     indexed f.page ds f.head (dictionary_page_only l.kind f.page file ds read)
     (subst (λ m. DataPages l file (Some ds) m (at + length (front ++ pages)) values) (sym f.ends)
-      (subst (λ m. DataPages l file (Some ds) (at + length front) m values) end
-        (subst (DataPages l file (Some ds) (at + length front) ((at + length front) + length pages)) (all_joined values) rest)))
+    (subst (λ m. DataPages l file (Some ds) (at + length front) m values) end
+    (subst (DataPages l file (Some ds) (at + length front) ((at + length front) + length pages)) (all_joined values) rest)))
 
 -- ---- what the footer says of the chunk
 

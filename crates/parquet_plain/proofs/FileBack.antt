@@ -106,9 +106,10 @@ fit_from s rows before [] g e = tt
 fit_from s rows before (c ∷ cs) g e =
     let within : length before < length s.columns = omega (arith, ap length e ∙ length-append before (c ∷ cs)) in
     let is : c ≡ get_or s.columns (length before) c = sym (ap (λ xs. get_or xs (length before) c) e ∙ get_past before cs c c) in
-    let n : length (column_values (length before) rows) ≡ length rows = length-map rows (λ (r : List Datum). get_or r (length before) datum.Null) in
-    (whole c (column_values (length before) rows) (omega (arith, n, g.few)) (column_stands s (length before) c rows within is g.fits) (column_returns s (length before) rows within g),
-      subst (λ n. FitFrom rows n cs) (length-append before (c ∷ [])) (fit_from s rows (before ++ c ∷ []) cs g (e ∙ sym (append_assoc before (c ∷ []) cs))))
+    let n : length (column_values (length before) rows) ≡ length rows = length-map rows (λ (r : List Datum). get_or r (length before) datum.Null) in (
+      whole c (column_values (length before) rows) (omega (arith, n, g.few)) (column_stands s (length before) c rows within is g.fits) (column_returns s (length before) rows within g),
+      subst (λ n. FitFrom rows n cs) (length-append before (c ∷ [])) (fit_from s rows (before ++ c ∷ []) cs g (e ∙ sym (append_assoc before (c ∷ []) cs))),
+    )
 
 map-append : (f : List Datum → List Datum) (xs ys : List (List Datum)) → map f (xs ++ ys) ≡ map f xs ++ map f ys
 map-append f [] ys = refl
@@ -118,17 +119,19 @@ groups_back : (s : TableSchema) (file : List ℕ) (gs : List (List (List Datum))
     → AreGroups (sources_from s.partition (elements_from s.partition 0 s.columns) 0 s.columns) file (group_entries s at gs) (map (nulled s) (joined gs))
 unfolding groups_text group_text group_entries group_entry
 groups_back s file [] at small some apart each t = refl
-groups_back s file (g ∷ gs) at small some apart each t =
-    (map (nulled s) g, map (nulled s) (joined gs),
-      record {
-        count = length g;
-        columns = columns_from s.partition g 0 s.columns;
-        counted = refl;
-        held = group_columns file s.partition g at s.columns small some apart (fit_from s g [] s.columns each.0 refl) (stands_first file at (group_text s g) (groups_text s gs) t);
-        beside = sym (rows_back s.partition g s.columns);
-      },
-      groups_back s file gs (at + length (group_text s g)) small (omega (arith, some)) apart each.1 (stands_second file at (group_text s g) (groups_text s gs) t),
-      map-append (nulled s) g (joined gs))
+groups_back s file (g ∷ gs) at small some apart each t = (
+  map (nulled s) g,
+  map (nulled s) (joined gs),
+  record {
+    count = length g;
+    columns = columns_from s.partition g 0 s.columns;
+    counted = refl;
+    held = group_columns file s.partition g at s.columns small some apart (fit_from s g [] s.columns each.0 refl) (stands_first file at (group_text s g) (groups_text s gs) t);
+    beside = sym (rows_back s.partition g s.columns);
+  },
+  groups_back s file gs (at + length (group_text s g)) small (omega (arith, some)) apart each.1 (stands_second file at (group_text s g) (groups_text s gs) t),
+  map-append (nulled s) g (joined gs),
+)
 
 -- ---- the footer's numbers and texts
 
@@ -227,16 +230,18 @@ chunks_fit file partition rows at place (c ∷ cs) named small few s =
   where
     values : List Datum
     values = column_values place rows
+
     by : (b : Bool) → StandsIn file at (if b then chunks_text partition rows (place + 1) cs else chunk_text c values ++ chunks_text partition rows (place + 1) cs)
         → ((at : ℕ) → StandsIn file at (chunks_text partition rows (place + 1) cs) → AllFit FitsChunk (chunk_entries partition rows at (place + 1) cs))
         → AllFit FitsChunk (if b then chunk_entries partition rows at (place + 1) cs
-          else chunk_entry c values at ∷ chunk_entries partition rows (at + length (chunk_text c values)) (place + 1) cs)
+        else chunk_entry c values at ∷ chunk_entries partition rows (at + length (chunk_text c values)) (place + 1) cs)
     by true t others = others at t
     by false t others =
-        let n : length values ≡ length rows = length-map rows (λ (r : List Datum). get_or r place datum.Null) in
-        (chunk_fits_by c (dictionary_of c.kind values) values file at named.0 small (omega (arith, n, few))
-          (stands_first file at (chunk_text c values) (chunks_text partition rows (place + 1) cs) t),
-          others (at + length (chunk_text c values)) (stands_second file at (chunk_text c values) (chunks_text partition rows (place + 1) cs) t))
+        let n : length values ≡ length rows = length-map rows (λ (r : List Datum). get_or r place datum.Null) in (
+          chunk_fits_by c (dictionary_of c.kind values) values file at named.0 small (omega (arith, n, few))
+              (stands_first file at (chunk_text c values) (chunks_text partition rows (place + 1) cs) t),
+          others (at + length (chunk_text c values)) (stands_second file at (chunk_text c values) (chunks_text partition rows (place + 1) cs) t),
+        )
 
 few_entries : (partition : List ℕ) (rows : List (List Datum)) (at place : ℕ) (cs : List Column) → length (chunk_entries partition rows at place cs) ≤ length cs
 few_entries partition rows at place [] = omega arith
@@ -244,7 +249,7 @@ few_entries partition rows at place (c ∷ cs) = by (is_partition partition plac
   where
     by : (b : Bool) → ((at : ℕ) → length (chunk_entries partition rows at (place + 1) cs) ≤ length cs)
         → length (if b then chunk_entries partition rows at (place + 1) cs
-          else chunk_entry c (column_values place rows) at ∷ chunk_entries partition rows (at + length (chunk_text c (column_values place rows))) (place + 1) cs) ≤ length (c ∷ cs)
+        else chunk_entry c (column_values place rows) at ∷ chunk_entries partition rows (at + length (chunk_text c (column_values place rows))) (place + 1) cs) ≤ length (c ∷ cs)
     by true n = omega (arith, n at)
     by false n = omega (arith, n (at + length (chunk_text c (column_values place rows))))
 
@@ -253,8 +258,8 @@ groups_fit : (s : TableSchema) (file : List ℕ) (gs : List (List (List Datum)))
 unfolding AllFit groups_text group_text group_entries group_entry
 groups_fit s file [] at few named small each t = tt
 groups_fit s file (g ∷ gs) at few named small each t =
-    let here = stands_first file at (group_text s g) (groups_text s gs) t in
-    (record {
+    let here = stands_first file at (group_text s g) (groups_text s gs) t in (
+      record {
         columns = record {
           few = omega (arith, few, few_entries s.partition g at 0 s.columns);
           each = chunks_fit file s.partition g at 0 s.columns named small each.0.few here;
@@ -262,7 +267,8 @@ groups_fit s file (g ∷ gs) at few named small each t =
         total_byte_size = narrow (length (group_text s g)) (omega (arith, stands_within file at (group_text s g) here, small));
         num_rows = narrow (length g) (omega (arith, each.0.few));
       },
-      groups_fit s file gs (at + length (group_text s g)) few named small each.1 (stands_second file at (group_text s g) (groups_text s gs) t))
+      groups_fit s file gs (at + length (group_text s g)) few named small each.1 (stands_second file at (group_text s g) (groups_text s gs) t),
+    )
 
 length-group_entries : (s : TableSchema) (at : ℕ) (gs : List (List (List Datum))) → length (group_entries s at gs) ≡ length gs
 unfolding group_entries
@@ -336,7 +342,7 @@ footer_small s rows small =
     let behind = stands_second (file_text s rows) 0 magic (groups_text s (groups_of rows) ++ ended footer) (stands_all s rows) in
     let last = stands_second (file_text s rows) (0 + length magic) (groups_text s (groups_of rows)) (ended footer) behind in
     let end = stands_within (file_text s rows) ((0 + length magic) + length (groups_text s (groups_of rows))) footer
-              (stands_first (file_text s rows) ((0 + length magic) + length (groups_text s (groups_of rows))) footer (length_bytes (length footer) ++ magic) last) in
+    (stands_first (file_text s rows) ((0 + length magic) + length (groups_text s (groups_of rows))) footer (length_bytes (length footer) ++ magic) last) in
     omega (arith, end, small)
 
 meta_fits : (s : TableSchema) (rows : List (List Datum)) → length s.columns ≤ 64 → AreNamed s.columns → RowsFit s rows → length rows ≤ most_rows → Small (file_text s rows)
@@ -377,10 +383,10 @@ file_back s rows schema named fits back short small =
     let t = stands_first file 4 (groups_text s (groups_of rows)) (ended (footer_text (meta_of s rows))) behind in
     let is = file_is s rows (footer_small s rows small) in
     let footer : footer_of file ≡ Ok (meta_of s rows)
-      = ap footer_of is ∙ footers_read_back (meta_of s rows) (groups_text s (groups_of rows)) [] (meta_fits s rows schema.most named fit short small t) (omega (arith, ap length is, small)) in
+    = ap footer_of is ∙ footers_read_back (meta_of s rows) (groups_text s (groups_of rows)) [] (meta_fits s rows schema.most named fit short small t) (omega (arith, ap length is, small)) in
     let groups : AreGroups cs file (group_entries s 4 (groups_of rows)) (map (nulled s) rows)
-      = subst (λ rs. AreGroups cs file (group_entries s 4 (groups_of rows)) (map (nulled s) rs)) (all_joined rows)
-        (groups_back s file (groups_of rows) 4 small (omega arith) apart (all_fit s rows fit) t) in
+    = subst (λ rs. AreGroups cs file (group_entries s 4 (groups_of rows)) (map (nulled s) rs)) (all_joined rows)
+    (groups_back s file (groups_of rows) 4 small (omega arith) apart (all_fit s rows fit) t) in
     file_only s file (map (nulled s) rows) (record {
       meta = meta_of s rows;
       leaves = elements_from s.partition 0 s.columns;

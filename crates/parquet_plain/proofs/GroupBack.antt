@@ -142,11 +142,13 @@ unfolding chunk_text chunk_entry
 column_back file rows leaves before rest chunks told others at place later c cs small w s =
     let values = column_values place rows in
     let l = leaf_at c (0 + length before) (element_of c) in
-    let named = ap (λ ks. find (is_chunk_of c.name) ks) s.chunks_are ∙ find_at c.name told others (chunk_entry c values at) s.new_chunks.0 (is_of c values at) in
-    (l, ap (leaf_from c 0) s.leaves_are ∙ leaf_is c 0 before rest s.new_leaves.0,
+    let named = ap (λ ks. find (is_chunk_of c.name) ks) s.chunks_are ∙ find_at c.name told others (chunk_entry c values at) s.new_chunks.0 (is_of c values at) in (
+      l,
+      ap (leaf_from c 0) s.leaves_are ∙ leaf_is c 0 before rest s.new_leaves.0,
       subst (λ n. IsChunk l n chunks file values) (length-map rows (λ (r : List Datum). get_or r place datum.Null))
-      (entry_back c l file (dictionary_of c.kind values) values at chunks (leaf_of c (0 + length before)) s.some small w
-        (stands_first file at (chunk_text c values) later s.stands) named))
+          (entry_back c l file (dictionary_of c.kind values) values at chunks (leaf_of c (0 + length before)) s.some small w
+          (stands_first file at (chunk_text c values) later s.stands) named),
+    )
 
 pub some_inside : (x l : Leaf) → Some x ≡ Some l → x ≡ l
 some_inside x l e = cc
@@ -167,15 +169,16 @@ columns_back file partition rows leaves before chunks told at place (c ∷ cs) s
   where
     values : List Datum
     values = column_values place rows
+
     by : (b : Bool)
         → Stood file leaves before (if b then elements_from partition (place + 1) cs else element_of c ∷ elements_from partition (place + 1) cs)
-          chunks told (if b then chunk_entries partition rows at (place + 1) cs else chunk_entry c values at ∷ chunk_entries partition rows (at + length (chunk_text c values)) (place + 1) cs)
-          at (if b then chunks_text partition rows (place + 1) cs else chunk_text c values ++ chunks_text partition rows (place + 1) cs) (c ∷ cs)
+        chunks told (if b then chunk_entries partition rows at (place + 1) cs else chunk_entry c values at ∷ chunk_entries partition rows (at + length (chunk_text c values)) (place + 1) cs)
+        at (if b then chunks_text partition rows (place + 1) cs else chunk_text c values ++ chunks_text partition rows (place + 1) cs) (c ∷ cs)
         → ((before : List SchemaElement) (told : List ColumnChunk) (at : ℕ)
-          → Stood file leaves before (elements_from partition (place + 1) cs) chunks told (chunk_entries partition rows at (place + 1) cs) at (chunks_text partition rows (place + 1) cs) cs
-          → HaveValues (sources_from partition leaves (place + 1) cs) (length rows) chunks file (columns_from partition rows (place + 1) cs))
+        → Stood file leaves before (elements_from partition (place + 1) cs) chunks told (chunk_entries partition rows at (place + 1) cs) at (chunks_text partition rows (place + 1) cs) cs
+        → HaveValues (sources_from partition leaves (place + 1) cs) (length rows) chunks file (columns_from partition rows (place + 1) cs))
         → HaveValues ((if b then source.Nulls else source_by c (leaf_from c 0 leaves)) ∷ sources_from partition leaves (place + 1) cs) (length rows) chunks file
-          ((if b then [] else values) ∷ columns_from partition rows (place + 1) cs)
+        ((if b then [] else values) ∷ columns_from partition rows (place + 1) cs)
     by true t others =
         let rest = others before told at (record { leaves_are = t.leaves_are; chunks_are = t.chunks_are; new_leaves = t.new_leaves.1; new_chunks = t.new_chunks.1; some = t.some; stands = t.stands }) in
         ([], columns_from partition rows (place + 1) cs, refl, rest, refl)
@@ -184,15 +187,19 @@ columns_back file partition rows leaves before chunks told at place (c ∷ cs) s
         let entry = chunk_entry c values at in
         let p = column_back file rows leaves before (elements_from partition (place + 1) cs) chunks told (chunk_entries partition rows (at + length (chunk_text c values)) (place + 1) cs) at place later c cs small fit.0 t in
         let rest = others (before ++ element_of c ∷ []) (told ++ entry ∷ []) (at + length (chunk_text c values)) (record {
-              leaves_are = t.leaves_are ∙ sym (append_assoc before (element_of c ∷ []) (elements_from partition (place + 1) cs));
-              chunks_are = t.chunks_are ∙ sym (append_assoc told (entry ∷ []) (chunk_entries partition rows (at + length (chunk_text c values)) (place + 1) cs));
-              new_leaves = leaves_more cs before c t.new_leaves.1 apart.0;
-              new_chunks = chunks_more cs told c values at t.new_chunks.1 apart.0;
-              some = omega (arith, t.some);
-              stands = stands_second file at (chunk_text c values) later t.stands;
-            }) in
-        (values, columns_from partition rows (place + 1) cs,
-          held c (length rows) chunks file values p.0 (leaf_from c 0 leaves) p.1 p.2, rest, refl)
+          leaves_are = t.leaves_are ∙ sym (append_assoc before (element_of c ∷ []) (elements_from partition (place + 1) cs));
+          chunks_are = t.chunks_are ∙ sym (append_assoc told (entry ∷ []) (chunk_entries partition rows (at + length (chunk_text c values)) (place + 1) cs));
+          new_leaves = leaves_more cs before c t.new_leaves.1 apart.0;
+          new_chunks = chunks_more cs told c values at t.new_chunks.1 apart.0;
+          some = omega (arith, t.some);
+          stands = stands_second file at (chunk_text c values) later t.stands;
+        }) in (
+          values,
+          columns_from partition rows (place + 1) cs,
+          held c (length rows) chunks file values p.0 (leaf_from c 0 leaves) p.1 p.2,
+          rest,
+          refl,
+        )
 
 -- the columns of a group that is written hold what was written
 pub group_columns : (file : List ℕ) (partition : List ℕ) (rows : List (List Datum)) (at : ℕ) (cs : List Column) → Small file → 0 < at → Apart cs → FitFrom rows 0 cs
@@ -211,6 +218,7 @@ group_columns file partition rows at cs small some apart fit s =
     no_leaves : (ds : List Column) → NewLeaves ds []
     no_leaves [] = tt
     no_leaves (d ∷ ds) = (tt, no_leaves ds)
+
     no_chunks : (ds : List Column) → NewChunks ds []
     no_chunks [] = tt
     no_chunks (d ∷ ds) = (tt, no_chunks ds)

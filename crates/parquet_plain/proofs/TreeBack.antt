@@ -47,12 +47,12 @@ sides partition rows (c ∷ cs) place g = by (is_partition partition place) (sid
         ap (λ rs. with_columns rs (columns_from partition rows (place + 1) cs)) (null_side g rows)
         ∙ others (λ r. g r ++ datum.Null ∷ [])
         ∙ map_same (λ r. (g r ++ datum.Null ∷ []) ++ nulled_from partition r (place + 1) cs) (λ r. g r ++ datum.Null ∷ nulled_from partition r (place + 1) cs) rows
-          (λ r. append_assoc (g r) (datum.Null ∷ []) (nulled_from partition r (place + 1) cs))
+        (λ r. append_assoc (g r) (datum.Null ∷ []) (nulled_from partition r (place + 1) cs))
     by false others =
         ap (λ rs. with_columns rs (columns_from partition rows (place + 1) cs)) (column_side g (λ r. get_or r place datum.Null) rows)
         ∙ others (λ r. g r ++ get_or r place datum.Null ∷ [])
         ∙ map_same (λ r. (g r ++ get_or r place datum.Null ∷ []) ++ nulled_from partition r (place + 1) cs) (λ r. g r ++ get_or r place datum.Null ∷ nulled_from partition r (place + 1) cs) rows
-          (λ r. append_assoc (g r) (get_or r place datum.Null ∷ []) (nulled_from partition r (place + 1) cs))
+        (λ r. append_assoc (g r) (get_or r place datum.Null ∷ []) (nulled_from partition r (place + 1) cs))
 
 abbrev no_data : List Datum → List Datum
 no_data r = []
@@ -149,7 +149,7 @@ typed_all leaves (source.Nulls ∷ ss) k e same h = typed_all leaves ss k e same
 typed_all leaves (source.Lacking name ∷ ss) k e same h = typed_all leaves ss k e same h
 typed_all leaves (source.Leaf l ∷ ss) k e same h =
     let one = other_by (l.place == k) l.place k (has_type e.physical_type (physical_of l.kind)) refl
-              (λ at. ap (λ x. has_type x.physical_type (physical_of l.kind)) (sym (ap (λ n. get_or leaves n e) at ∙ same)) ∙ h.0 e) in
+    (λ at. ap (λ x. has_type x.physical_type (physical_of l.kind)) (sym (ap (λ n. get_or leaves n e) at ∙ same)) ∙ h.0 e) in
     or_both ((l.place == k) && not (has_type e.physical_type (physical_of l.kind))) (list_any (is_other_type k e) ss) one (typed_all leaves ss k e same h.1)
   where
     or_both : (a b : Bool) → a ≡ false → b ≡ false → a || b ≡ false
@@ -168,14 +168,16 @@ are_leaves partition leaves before sources place (c ∷ cs) typed e =
     by false f others =
         let rest = elements_from partition (place + 1) cs in
         let leaf : IsLeaf sources (length before) (element_of c) = record {
-              flat = refl;
-              typed = typed_all leaves sources (length before) (element_of c)
-                (ap (λ ls. get_or ls (length before) (element_of c)) f ∙ get_past before rest (element_of c) (element_of c)) typed;
-              numbers = numbers_by c.kind c.nullable c.name;
-              once = once_by c.nullable;
-            } in
-        (leaf, subst (λ n. AreLeaves sources n rest) (length-append before (element_of c ∷ []))
-          (others (before ++ element_of c ∷ []) (f ∙ sym (append_assoc before (element_of c ∷ []) rest))))
+          flat = refl;
+          typed = typed_all leaves sources (length before) (element_of c)
+              (ap (λ ls. get_or ls (length before) (element_of c)) f ∙ get_past before rest (element_of c) (element_of c)) typed;
+          numbers = numbers_by c.kind c.nullable c.name;
+          once = once_by c.nullable;
+        } in (
+          leaf,
+          subst (λ n. AreLeaves sources n rest) (length-append before (element_of c ∷ []))
+              (others (before ++ element_of c ∷ []) (f ∙ sym (append_assoc before (element_of c ∷ []) rest))),
+        )
 
 few_elements : (partition : List ℕ) (place : ℕ) (cs : List Column) → length (elements_from partition place cs) ≤ length cs
 few_elements partition place [] = omega arith
@@ -207,5 +209,6 @@ tree_back s few apart =
     new : (ds : List Column) → NewLeaves ds []
     new [] = tt
     new (d ∷ ds) = (tt, new ds)
+
     in_range : (n : ℕ) → n ≤ 64 → has_numbers_in_range (root_of (pos n)) ≡ true
     in_range n small = let e : nat_lt n (2 ^ 31) ≡ true = lt-ltb n (2 ^ 31) (omega (arith, small)) in rw e refl

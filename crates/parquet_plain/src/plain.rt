@@ -37,11 +37,7 @@ fn plain_row(alloc: Global, columns: &[Items<Datum>], place: usize) -> Result<Ro
 }
 
 /// So many rows of columns.
-fn plain_rows(
-    alloc: Global,
-    columns: &[Items<Datum>],
-    count: usize,
-) -> Result<Vec<Row>, NoMemory>
+fn plain_rows(alloc: Global, columns: &[Items<Datum>], count: usize) -> Result<Vec<Row>, NoMemory>
     ensures { IfOk result (λ v. v.items ≡ rows_from 0 count columns.now) }
 {
     let mut rows = Vec::new(alloc);

@@ -194,7 +194,13 @@ fn many_rows_have_two_groups(rt: HostRuntime) -> Result<(), Fail> {
     }
     let rows = long_rows(alloc, &numbers)?;
     let file = written(alloc, &schema, &rows)?;
-    assert_eq!(rt; parquet_meta::read_footer(alloc, &file)?.row_groups.as_slice().len(), 2);
+    assert_eq!(rt;
+        parquet_meta::read_footer(alloc, &file)?
+            .row_groups
+            .as_slice()
+            .len(),
+        2
+    );
     assert!(rt; reads(alloc, &schema, &file, &rows));
     Ok(())
 }
