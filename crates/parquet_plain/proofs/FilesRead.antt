@@ -39,8 +39,8 @@ leaf_only cs children place e h within =
     unless_at (is_group e) (Err faults.Nested) (if list_any (is_other_type place e) cs then Err (faults.Physical e.name) else last) h.flat
     ∙ unless_at (list_any (is_other_type place e) cs) (Err (faults.Physical e.name)) last h.typed
     ∙ if_at (is_leaf children place e) (Ok tt) (Err (faults.Shape e.name))
-      (and_from (has_numbers_in_range e && is_flat e.repetition_type) (nat_lt place children)
-        (and_from (has_numbers_in_range e) (is_flat e.repetition_type) h.numbers h.once) (lt-ltb place children within))
+    (and_from (has_numbers_in_range e && is_flat e.repetition_type) (nat_lt place children)
+    (and_from (has_numbers_in_range e) (is_flat e.repetition_type) h.numbers h.once) (lt-ltb place children within))
 
 leaves_found : (cs : List Source) (children place : ℕ) (es : List SchemaElement) → place ≤ children → leaves_checked cs children place es ≡ Ok tt
     → AreLeaves cs place es × (place + length es ≤ children)
@@ -92,7 +92,7 @@ tree_only_by s root leaves numbers counted each =
     let children = children_of root.num_children in
     if_at (has_numbers_in_range root) (if_all children root leaves found) (Err (faults.Shape root.name)) numbers
     ∙ bind_at (leaves_checked found children 0 leaves) (λ _. if nat_lt (length leaves) children then Err (faults.Shape root.name) else Ok found) tt
-      (leaves_only found children 0 leaves each (omega (arith, counted)))
+    (leaves_only found children 0 leaves each (omega (arith, counted)))
     ∙ unless_at (nat_lt (length leaves) children) (Err (faults.Shape root.name)) (Ok found) (le-ltb (length leaves) children (omega (arith, counted)))
 
 tree_only : (s : TableSchema) (elements leaves : List SchemaElement) → IsTree (sources_from s.partition leaves 0 s.columns) elements leaves
@@ -118,7 +118,7 @@ file_found s file rows e =
       few = g.3;
     }
 
-file_only : (s : TableSchema) (file : List ℕ) (rows : List (List Datum)) → FileRows s file rows → file_rows s file ≡ Ok rows
+pub file_only : (s : TableSchema) (file : List ℕ) (rows : List (List Datum)) → FileRows s file rows → file_rows s file ≡ Ok rows
 unfolding file_rows
 file_only s file rows h =
     let name = first_name s.partition 0 s.columns in

@@ -79,13 +79,13 @@ spans l rows size c typed uncompressed here numbers counted within =
     let coded = if not (int_eq m.codec (pos 0)) then Err (codec_fault l.name m.codec) else last in
     let far = nat_lt size (first_byte m + unsigned_abs m.total_compressed_size) in
     unless_at (not (int_eq m.physical_type (physical_of l.kind))) (Err (faults.Physical l.name)) coded
-      (false_not (int_eq m.physical_type (physical_of l.kind)) (number_same m.physical_type (physical_of l.kind) typed))
+    (false_not (int_eq m.physical_type (physical_of l.kind)) (number_same m.physical_type (physical_of l.kind) typed))
     ∙ unless_at (not (int_eq m.codec (pos 0))) (Err (codec_fault l.name m.codec)) last (false_not (int_eq m.codec (pos 0)) (number_same m.codec (pos 0) uncompressed))
     ∙ if_at (is_whole rows size c) (Ok (whole_span c)) (Err (faults.Shape l.name))
-      (and_from (not (is_some c.file_path) && has_natural_numbers c) ((unsigned_abs m.num_values == rows) && not far)
-        (and_from (not (is_some c.file_path)) (has_natural_numbers c) (true_not (is_some c.file_path) (some_of c.file_path here)) numbers)
-        (and_from (unsigned_abs m.num_values == rows) (not far) (eq-eqb (unsigned_abs m.num_values) rows counted)
-          (true_not far (le-ltb size (first_byte m + unsigned_abs m.total_compressed_size) within))))
+    (and_from (not (is_some c.file_path) && has_natural_numbers c) ((unsigned_abs m.num_values == rows) && not far)
+    (and_from (not (is_some c.file_path)) (has_natural_numbers c) (true_not (is_some c.file_path) (some_of c.file_path here)) numbers)
+    (and_from (unsigned_abs m.num_values == rows) (not far) (eq-eqb (unsigned_abs m.num_values) rows counted)
+    (true_not far (le-ltb size (first_byte m + unsigned_abs m.total_compressed_size) within))))
 
 leaf_found_by : (l : Leaf) (rows : ℕ) (chunks : List ColumnChunk) (file : List ℕ) (vs : List Datum) (o : Option ColumnChunk) → find (is_chunk_of l.name) chunks ≡ o
     → leaf_values_by l rows file o ≡ Ok vs → IsChunk l rows chunks file vs
@@ -118,7 +118,7 @@ unfolding leaf_values whole_span
 leaf_only l rows chunks file vs h =
     ap (leaf_values_by l rows file) h.named
     ∙ bind_at (span_of l rows (length file) h.chunk) (λ span. chunk_values l rows span file) (whole_span h.chunk)
-      (spans l rows (length file) h.chunk h.typed h.uncompressed h.here h.numbers h.counted h.within)
+    (spans l rows (length file) h.chunk h.typed h.uncompressed h.here h.numbers h.counted h.within)
     ∙ chunk_only l rows (whole_span h.chunk) file vs h.pages h.complete
 
 -- ---- columns
@@ -200,7 +200,7 @@ group_only : (name : List ℕ) (cs : List Source) (file : List ℕ) (before : �
 unfolding group_rows
 group_only name cs file before g rows h few =
     bind_at (rows_of name before g.num_rows) (λ count. columns_values cs count g.columns file >>= λ columns. Ok (side_by_side count columns)) h.count
-      (rows_only name before g.num_rows h.count h.counted (omega (arith, few, ap length h.beside ∙ length-side_by_side h.count h.columns)))
+    (rows_only name before g.num_rows h.count h.counted (omega (arith, few, ap length h.beside ∙ length-side_by_side h.count h.columns)))
     ∙ bind_at (columns_values cs h.count g.columns file) (λ columns. Ok (side_by_side h.count columns)) h.columns (columns_only cs h.count g.columns file h.columns h.held)
     ∙ ap Ok (sym h.beside)
 
@@ -222,6 +222,6 @@ groups_only name cs file before [] rows h few = ap Ok (sym (ap (λ rs. before ++
 groups_only name cs file before (g ∷ gs) rows h few =
     let n : length rows ≡ length h.0 + length h.1 = ap length h.4 ∙ length-append h.0 h.1 in
     bind_at (group_rows name cs file (length before) g) (λ more. with_groups name cs file (before ++ more) gs) h.0
-      (group_only name cs file (length before) g h.0 h.2 (omega (arith, few, n)))
+    (group_only name cs file (length before) g h.0 h.2 (omega (arith, few, n)))
     ∙ groups_only name cs file (before ++ h.0) gs h.1 h.3 (omega (arith, length-append before h.0, few, n))
     ∙ ap Ok (append_assoc before h.0 h.1 ∙ ap (λ rs. before ++ rs) (sym h.4))

@@ -9,3 +9,8 @@ pub mod HeadsRead
 pub mod WalkRead
 pub mod GroupsRead
 pub mod FilesRead
+pub mod ChunkBack
+pub mod GroupBack
+pub mod TreeBack
+pub mod FileBack
+pub mod Cells

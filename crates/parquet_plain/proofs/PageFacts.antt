@@ -245,10 +245,13 @@ spread_there (level ∷ levels) (v ∷ values) no_null e h =
   where
     zero_no : (level == 0) ≡ false
     zero_no = or_first (level == 0) (has_null levels) no_null
+
     one : ◌≡◌ {A = ℕ} (if level == 0 then 0 else 1) 1
     one = rw zero_no refl
+
     few : length values ≡ there levels
     few = omega (arith, e, one)
+
     first : (v : Datum) (ws : List Datum) → There v → All There ws → All There (v ∷ ws)
     first v ws here behind zero d within = here
     first v ws here behind (suc j) d within = behind j d (omega arith)
@@ -271,11 +274,16 @@ unfolding page_has_null body_values
 page_nulls k page file d vs e =
     let p = parts_of_page k true page file d vs e in
     let q = bind_some (levels_in p.count p.bytes) (λ (m : List ℕ × List ℕ). option_map (spread m.0) (present_values k p.head.encoding d (there m.0) m.1)) vs p.read in
-    let r = map_some (spread q.0.0) (present_values k p.head.encoding d (there q.0.0) q.0.1) vs q.2 in
-    (q.0.0, r.0, sym r.2, present_count k p.head.encoding d (there q.0.0) q.0.1 r.0 r.1, λ known. present_there k p.head.encoding d (there q.0.0) q.0.1 r.0 known r.1,
+    let r = map_some (spread q.0.0) (present_values k p.head.encoding d (there q.0.0) q.0.1) vs q.2 in (
+      q.0.0,
+      r.0,
+      sym r.2,
+      present_count k p.head.encoding d (there q.0.0) q.0.1 r.0 r.1,
+      λ known. present_there k p.head.encoding d (there q.0.0) q.0.1 r.0 known r.1,
       steps.bind_at (data_head true page) (λ (h : DataPageHead). or_page page.body (body_of page h.num_values file) >>= λ (b : ℕ × List ℕ). or_page page.body (body_has_null true b.0 b.1)) p.head p.headed
-      ∙ steps.bind_at (or_page page.body (body_of page p.head.num_values file)) (λ (b : ℕ × List ℕ). or_page page.body (body_has_null true b.0 b.1)) (p.count, p.bytes) (ap (or_page page.body) p.framed)
-      ∙ ap (or_page page.body) (map_at (λ (l : List ℕ × List ℕ). has_null l.0) (levels_in p.count p.bytes) q.0 q.1))
+          ∙ steps.bind_at (or_page page.body (body_of page p.head.num_values file)) (λ (b : ℕ × List ℕ). or_page page.body (body_has_null true b.0 b.1)) (p.count, p.bytes) (ap (or_page page.body) p.framed)
+          ∙ ap (or_page page.body) (map_at (λ (l : List ℕ × List ℕ). has_null l.0) (levels_in p.count p.bytes) q.0 q.1),
+    )
 
 -- a page without a level 0 has no null, where its dictionary has none
 pub nulls_found : (k : Kind) (page : PageAt) (file : List ℕ) (d : Option (List Datum)) (vs : List Datum) → AreThere d → page_values k true page file d ≡ Ok vs

@@ -80,10 +80,10 @@ page_stepped l rows span file w after known past e =
     by : (page : PageAt) (b : Bool) → (if b then with_dictionary l span file page w else with_data l rows span file page w) ≡ Ok after → Stepped l span file page w after
     by page true h =
         let q = bind_ok (dictionary_checked page.head.dictionary_page) (λ _. if not (w.at == span.begins) then Err (faults.PageKind (pos 2))
-                  else (if nat_lt span.ends (page_end page) then Err (faults.Page page.body)
-                  else (dictionary_values l.kind page file >>= λ ds. Ok (record { at = page_end page; values = w.values; dictionary = Some ds })))) after h in
+        else (if nat_lt span.ends (page_end page) then Err (faults.Page page.body)
+        else (dictionary_values l.kind page file >>= λ ds. Ok (record { at = page_end page; values = w.values; dictionary = Some ds })))) after h in
         let r = unless_ok (not (w.at == span.begins)) (if nat_lt span.ends (page_end page) then Err (faults.Page page.body)
-                  else (dictionary_values l.kind page file >>= λ ds. Ok (record { at = page_end page; values = w.values; dictionary = Some ds }))) (faults.PageKind (pos 2)) after q.2 in
+        else (dictionary_values l.kind page file >>= λ ds. Ok (record { at = page_end page; values = w.values; dictionary = Some ds }))) (faults.PageKind (pos 2)) after q.2 in
         let same = eqb-true w.at span.begins (not_false (w.at == span.begins) r.0) in
         absurd (omega (arith, same))
     by page false h = data_stepped l rows span file page w after known h
@@ -109,7 +109,7 @@ step_walked : (l : Leaf) (span : Span) (file : List ℕ) (page : PageAt) (w midd
 step_walked l span file page w middle after stands s walked = record {
   more = s.vs ++ walked.more;
   pages = next page s.vs walked.more stands (page_only l.kind l.optional page file w.dictionary s.vs s.read) s.nulls
-    (subst (λ (x : Walk). DataPages l file x.dictionary x.at after.at walked.more) s.is walked.pages) refl;
+      (subst (λ (x : Walk). DataPages l file x.dictionary x.at after.at walked.more) s.is walked.pages) refl;
   grown = walked.grown ∙ ap (λ (x : Walk). x.values ++ walked.more) s.is ∙ append_assoc w.values s.vs walked.more;
   within = walked.within;
 }
@@ -150,9 +150,10 @@ filled : (l : Leaf) (rows : ℕ) (span : Span) (file : List ℕ) (w after : Walk
 filled l rows span file w after values empty walked e =
     let p = ended l rows span after values e in
     let at : after.at ≡ span.ends = omega (arith, p.0, walked.within) in
-    let same : walked.more ≡ values = sym (walked.grown ∙ ap (λ vs. vs ++ walked.more) empty) ∙ p.2 in
-    (subst (λ vs. DataPages l file w.dictionary w.at span.ends vs) same (subst (λ at. DataPages l file w.dictionary w.at at walked.more) at walked.pages),
-      ap length (sym p.2) ∙ p.1)
+    let same : walked.more ≡ values = sym (walked.grown ∙ ap (λ vs. vs ++ walked.more) empty) ∙ p.2 in (
+      subst (λ vs. DataPages l file w.dictionary w.at span.ends vs) same (subst (λ at. DataPages l file w.dictionary w.at at walked.more) at walked.pages),
+      ap length (sym p.2) ∙ p.1,
+    )
 
 record Opened (l : Leaf) (span : Span) (file : List ℕ) (page : PageAt) (w after : Walk) : Type 0 where
   ds : List Datum
@@ -165,7 +166,7 @@ unfolding with_dictionary
 opened l span file page w after h =
     let read = dictionary_values l.kind page file >>= λ ds. Ok (record { at = page_end page; values = w.values; dictionary = Some ds }) in
     let q = bind_ok (dictionary_checked page.head.dictionary_page) (λ _. if not (w.at == span.begins) then Err (faults.PageKind (pos 2))
-              else (if nat_lt span.ends (page_end page) then Err (faults.Page page.body) else read)) after h in
+    else (if nat_lt span.ends (page_end page) then Err (faults.Page page.body) else read)) after h in
     let r = unless_ok (not (w.at == span.begins)) (if nat_lt span.ends (page_end page) then Err (faults.Page page.body) else read) (faults.PageKind (pos 2)) after q.2 in
     let s = unless_ok (nat_lt span.ends (page_end page)) read (faults.Page page.body) after r.1 in
     let v = bind_ok (dictionary_values l.kind page file) (λ ds. Ok (record { at = page_end page; values = w.values; dictionary = Some ds })) after s.1 in
@@ -192,7 +193,7 @@ chunk_walked l rows span file (suc most) after values m within e f = by (nat_lt 
         let dictionary = dictionary_page_only l.kind page file o.ds o.read in
         let further : Walk = record { at = page_end page; values = []; dictionary = Some o.ds } in
         let w = walked l rows span file most further after (plain_there l.kind dictionary.bytes o.ds dictionary.body) (omega (arith, past stands)) o.within
-                (ap (with_pages l rows span file most) (sym o.is) ∙ rest) in
+        (ap (with_pages l rows span file most) (sym o.is) ∙ rest) in
         let p = filled l rows span file further after values refl w f in
         record { pages = indexed page o.ds stands dictionary p.0; count = p.1 }
     first page middle stands false h rest =
@@ -250,10 +251,10 @@ data_read l rows span file page w vs stands holds may few within =
     bind_at (page_head_at file w.at) (λ p. if int_eq p.head.page_type (pos 2) then with_dictionary l span file p w else with_data l rows span file p w) page (head_found file w.at page stands)
     ∙ unless_at (int_eq page.head.page_type (pos 2)) (with_dictionary l span file page w) (with_data l rows span file page w) is_data
     ∙ bind_at (count_in l.optional page) (λ count. if nat_lt rows (length w.values + count) then Err (faults.Shape l.name) else with_values l span file page w) (length vs)
-      (page_count l.kind l.optional page file w.dictionary vs read)
+    (page_count l.kind l.optional page file w.dictionary vs read)
     ∙ unless_at (nat_lt rows (length w.values + length vs)) (Err (faults.Shape l.name)) (with_values l span file page w) (le-ltb rows (length w.values + length vs) few)
     ∙ unless_at (nat_lt span.ends (page_end page)) (Err (faults.Page page.body))
-      (nulls_checked l page file >>= λ _. page_values l.kind l.optional page file w.dictionary >>= λ vs. Ok (behind page w vs)) (le-ltb span.ends (page_end page) within)
+    (nulls_checked l page file >>= λ _. page_values l.kind l.optional page file w.dictionary >>= λ vs. Ok (behind page w vs)) (le-ltb span.ends (page_end page) within)
     ∙ bind_at (nulls_checked l page file) (λ _. page_values l.kind l.optional page file w.dictionary >>= λ vs. Ok (behind page w vs)) tt (checked l page file w.dictionary vs may read)
     ∙ bind_at (page_values l.kind l.optional page file w.dictionary) (λ vs. Ok (behind page w vs)) vs read
 
@@ -275,10 +276,13 @@ pages_read {l} {file} {d} {at} {end} {values} (next page vs more stands holds ma
   where
     order : page_end page ≤ end
     order = pages_order others
+
     sum : length values ≡ length vs + length more
     sum = ap length e ∙ length-append vs more
+
     start : Walk
     start = record { at = at; values = before; dictionary = d }
+
     by : (most : ℕ) → end - at ≤ most
         → ((n : ℕ) → end - page_end page ≤ n → with_pages l rows span file n (behind page start vs) ≡ Ok (record { at = end; values = (before ++ vs) ++ more; dictionary = d }))
         → with_pages l rows span file most start ≡ Ok (record { at = end; values = before ++ values; dictionary = d })
@@ -286,7 +290,7 @@ pages_read {l} {file} {d} {at} {end} {values} (next page vs more stands holds ma
     by (suc most) enough further =
         read_more l rows span file most start (omega (arith, order, past stands, is))
         ∙ bind_at (with_page l rows span file start) (with_pages l rows span file most) (behind page start vs)
-          (data_read l rows span file page start vs stands holds may (omega (arith, few, sum)) (omega (arith, order, is)))
+        (data_read l rows span file page start vs stands holds may (omega (arith, few, sum)) (omega (arith, order, is)))
         ∙ further most (omega (arith, enough, past stands))
         ∙ ap (λ x. Ok (record { at = end; values = x; dictionary = d })) (append_assoc before vs more ∙ ap (λ x. before ++ x) (sym e))
 
@@ -311,13 +315,13 @@ dictionary_read l rows span file page ds stands holds within =
     bind_at (page_head_at file span.begins) (λ p. if int_eq p.head.page_type (pos 2) then with_dictionary l span file p start else with_data l rows span file p start) page (head_found file span.begins page stands)
     ∙ if_at (int_eq page.head.page_type (pos 2)) (with_dictionary l span file page start) (with_data l rows span file page start) is_dictionary
     ∙ bind_at (dictionary_checked page.head.dictionary_page) (λ _. if not (span.begins == span.begins) then Err (faults.PageKind (pos 2))
-        else (if nat_lt span.ends (page_end page) then Err (faults.Page page.body) else (dictionary_values l.kind page file >>= λ ds. Ok (record { at = page_end page; values = []; dictionary = Some ds })))) tt
-      (dictionary_opens page.head.dictionary_page holds.head holds.has_head holds.encoded)
+    else (if nat_lt span.ends (page_end page) then Err (faults.Page page.body) else (dictionary_values l.kind page file >>= λ ds. Ok (record { at = page_end page; values = []; dictionary = Some ds })))) tt
+    (dictionary_opens page.head.dictionary_page holds.head holds.has_head holds.encoded)
     ∙ unless_at (not (span.begins == span.begins)) (Err (faults.PageKind (pos 2)))
-      (if nat_lt span.ends (page_end page) then Err (faults.Page page.body) else (dictionary_values l.kind page file >>= λ ds. Ok (record { at = page_end page; values = []; dictionary = Some ds })))
-      (false_not (span.begins == span.begins) (eq-eqb span.begins span.begins refl))
+    (if nat_lt span.ends (page_end page) then Err (faults.Page page.body) else (dictionary_values l.kind page file >>= λ ds. Ok (record { at = page_end page; values = []; dictionary = Some ds })))
+    (false_not (span.begins == span.begins) (eq-eqb span.begins span.begins refl))
     ∙ unless_at (nat_lt span.ends (page_end page)) (Err (faults.Page page.body)) (dictionary_values l.kind page file >>= λ ds. Ok (record { at = page_end page; values = []; dictionary = Some ds }))
-      (le-ltb span.ends (page_end page) within)
+    (le-ltb span.ends (page_end page) within)
     ∙ bind_at (dictionary_values l.kind page file) (λ ds. Ok (record { at = page_end page; values = []; dictionary = Some ds })) ds (dictionary_page_found l.kind page file ds holds)
 
 -- a chunk that stands there is read
@@ -335,10 +339,11 @@ chunk_only l rows span file values (indexed page ds stands holds pages) e =
   where
     order : page_end page ≤ span.ends
     order = pages_order pages
+
     by : (most : ℕ) → span.ends - span.begins ≤ most → with_pages l rows span file most (walk_from span.begins) ≡ Ok (record { at = span.ends; values = values; dictionary = Some ds })
     by zero enough = absurd (omega (arith, order, past stands))
     by (suc most) enough =
         read_more l rows span file most (walk_from span.begins) (omega (arith, order, past stands))
         ∙ bind_at (with_page l rows span file (walk_from span.begins)) (with_pages l rows span file most) (record { at = page_end page; values = []; dictionary = Some ds })
-          (dictionary_read l rows span file page ds stands holds order)
+        (dictionary_read l rows span file page ds stands holds order)
         ∙ pages_read pages rows span most [] refl (omega (arith, e)) (omega (arith, enough, past stands))

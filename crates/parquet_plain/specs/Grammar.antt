@@ -1,8 +1,9 @@
 -- What a file of rows is, as a relation between its bytes and the rows (README.md, "File format", "Data Pages";
 -- parquet.thrift), apart from reading and from writing.
-use Rattle.std.specs.Prelude.{◌≡◌, ◌↔◌, ℕ, ◌+◌, ◌<◌, ◌≤◌, Bool, true, false, List, [], ◌∷◌, ◌++◌, length, map, Option, Some, None, Ok, ℤ, pos, unsigned_abs}
+use Rattle.std.specs.Prelude.{◌≡◌, ◌↔◌, ℕ, zero, suc, ◌+◌, ◌<◌, ◌≤◌, Bool, true, false, List, [], ◌∷◌, ◌++◌, length, slice_index_or, Option, Some, None, Ok, ℤ, pos, unsigned_abs}
 use Rattle.std.specs.List.{All, find, list_any}
 use Rattle.row_base.specs.declared.row.Datum.{Datum}
+use Rattle.row_base.specs.declared.row.Datum.TheVariants as datum
 use Rattle.row_base.specs.Schema.{TableSchema}
 use Rattle.thrift_compact.specs.Laws.{Stands}
 use Rattle.parquet_meta.specs.declared.head.PageAt.{PageAt}
@@ -120,6 +121,20 @@ pub record FileRows (s : TableSchema) (file : List ℕ) (rows : List (List Datum
   pub tree : IsTree (sources_from s.partition leaves 0 s.columns) meta.schema leaves
   pub groups : AreGroups (sources_from s.partition leaves 0 s.columns) file meta.row_groups rows
   pub few : length rows ≤ most_rows
+
+-- the row at a place of columns, with null where a column has no value
+abbrev pub row_at : ℕ → List (List Datum) → List Datum
+row_at place [] = []
+row_at place (vs ∷ vss) = slice_index_or vs place datum.Null ∷ row_at place vss
+
+-- so many rows of columns, from a place on
+abbrev pub rows_from : ℕ → ℕ → List (List Datum) → List (List Datum)
+rows_from place zero columns = []
+rows_from place (suc count) columns = row_at place columns ∷ rows_from (place + 1) count columns
+
+-- columns side by side: each row has of each column the value at the row's place
+abbrev pub RowsAreBeside : Type 0
+RowsAreBeside = (count : ℕ) (columns : List (List Datum)) → side_by_side count columns ≡ rows_from 0 count columns
 
 -- a file is read as rows exactly where it holds them
 abbrev pub FilesAreRead : Type 0

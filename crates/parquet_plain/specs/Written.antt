@@ -152,7 +152,7 @@ chunk_entries partition rows at place [] = []
 chunk_entries partition rows at place (c ∷ cs) =
     if is_partition partition place then chunk_entries partition rows at (place + 1) cs
     else chunk_entry c (column_values place rows) at
-        ∷ chunk_entries partition rows (at + length (chunk_text c (column_values place rows))) (place + 1) cs
+    ∷ chunk_entries partition rows (at + length (chunk_text c (column_values place rows))) (place + 1) cs
 
 -- a group of these rows
 unfoldable pub group_text : TableSchema → List (List Datum) → List ℕ

@@ -74,7 +74,11 @@ fn first_of(place: u64, dictionary: Option<i64>) -> u64
     match dictionary {
         Some(number) => {
             let first = number.unsigned_abs();
-            if 0 < first && first < place { first } else { place }
+            if 0 < first && first < place {
+                first
+            } else {
+                place
+            }
         }
         None => place,
     }
@@ -85,7 +89,10 @@ fn first_byte(meta: &ColumnMetaData) -> u64
     ensures value { result ≡ spec.first_byte meta.now }
     ensures bound { result ≤ 2 ^ 63 }
 {
-    first_of(meta.data_page_offset.unsigned_abs(), meta.dictionary_page_offset)
+    first_of(
+        meta.data_page_offset.unsigned_abs(),
+        meta.dictionary_page_offset,
+    )
 }
 
 /// Why a codec isn't read.

@@ -56,7 +56,7 @@ fn source_values(
 }
 
 /// The values of each column.
-fn columns_values(
+pub(crate) fn columns_values(
     alloc: Global,
     sources: &[Source],
     rows: usize,
@@ -73,7 +73,7 @@ fn columns_values(
 }
 
 /// How many rows a group has behind so many others, where there are no more than a file may have.
-fn rows_of(name: &Text, before: usize, number: i64) -> Result<usize, FileFault>
+pub(crate) fn rows_of(name: &Text, before: usize, number: i64) -> Result<usize, FileFault>
     ensures { Reads result (spec.rows_of name.now before number) }
 {
     if 0 <= number && before <= MAX_ROWS && number <= (MAX_ROWS - before) as i64 {

@@ -9,6 +9,7 @@ mod groups;
 mod laws;
 mod page_writer;
 mod pages;
+mod plain;
 mod reading;
 mod rows;
 mod source;
@@ -17,6 +18,6 @@ mod tests;
 mod tree;
 mod writing;
 
-pub use laws::files_are_read;
+pub use laws::{files_are_read, files_read_back};
 pub use reading::read_file;
 pub use writing::write_file;

@@ -135,7 +135,14 @@ fn page_values(
 {
     let values = match dictionary {
         Some(dictionary) => {
-            read_page(alloc, leaf.kind, leaf.optional, page, file, Some(dictionary.as_slice()))?
+            read_page(
+                alloc,
+                leaf.kind,
+                leaf.optional,
+                page,
+                file,
+                Some(dictionary.as_slice()),
+            )?
         }
         None => read_page(alloc, leaf.kind, leaf.optional, page, file, None)?,
     };

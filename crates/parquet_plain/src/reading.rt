@@ -10,7 +10,7 @@ use row_base::{NoMemory, Row, Schema, Text};
 use std::alloc::Global;
 
 /// The name of the first column that is no partition column.
-fn first_name(alloc: Global, schema: &Schema) -> Result<Text, NoMemory>
+pub(crate) fn first_name(alloc: Global, schema: &Schema) -> Result<Text, NoMemory>
     ensures { IfOk result (λ t. t ≡ spec.first_name schema.now.partition 0 schema.now.columns) }
 {
     for (i, column) in schema.columns().iter().enumerate() {

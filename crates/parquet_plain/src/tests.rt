@@ -4,6 +4,7 @@ ghost use Rattle.std.specs.Prelude.{◌↔◌, ◌≤ℤ◌, pos, IsTrue};
 ghost use Rattle.std.specs.List.{All};
 ghost use Rattle.row_base.specs.Schema.{FitsSchema};
 
+use crate::plain::plain_file;
 use crate::{read_file, write_file};
 use parquet_meta::{
     ColumnChunk, ColumnMetaData, FileFault, FileMeta, Items, RowGroup, SchemaElement, write_footer,
@@ -113,12 +114,18 @@ fn written(alloc: Global, schema: &Schema, rows: &[Row]) -> Result<Vec<u8>, NoMe
     }
 }
 
-/// Whether a file reads as these rows.
-fn reads(alloc: Global, schema: &Schema, bytes: &[u8], rows: &[Row]) -> bool {
-    match read_file(schema, bytes, alloc) {
+/// Whether what was read is these rows.
+fn are_rows(read: Result<Vec<Row>, FileFault>, rows: &[Row]) -> bool {
+    match read {
         Ok(read) => read.as_slice() == rows,
         Err(_) => false,
     }
+}
+
+/// Whether a file reads as these rows, by the plain reader too.
+fn reads(alloc: Global, schema: &Schema, bytes: &[u8], rows: &[Row]) -> bool {
+    are_rows(read_file(schema, bytes, alloc), rows)
+        && are_rows(plain_file(schema, bytes, alloc), rows)
 }
 
 #[test]
@@ -187,7 +194,13 @@ fn many_rows_have_two_groups(rt: HostRuntime) -> Result<(), Fail> {
     }
     let rows = long_rows(alloc, &numbers)?;
     let file = written(alloc, &schema, &rows)?;
-    assert_eq!(rt; parquet_meta::read_footer(alloc, &file)?.row_groups.as_slice().len(), 2);
+    assert_eq!(rt;
+        parquet_meta::read_footer(alloc, &file)?
+            .row_groups
+            .as_slice()
+            .len(),
+        2
+    );
     assert!(rt; reads(alloc, &schema, &file, &rows));
     Ok(())
 }

@@ -41,8 +41,7 @@ fn is_absent_or_in_range(number: Option<i64>) -> bool
 fn has_numbers_in_range(element: &SchemaElement) -> bool
     ensures { result ≡ spec.has_numbers_in_range element.now }
 {
-    (is_absent_or_in_range(element.physical_type)
-        && is_absent_or_in_range(element.repetition_type))
+    (is_absent_or_in_range(element.physical_type) && is_absent_or_in_range(element.repetition_type))
         && (is_absent_or_in_range(element.num_children)
             && is_absent_or_in_range(element.converted_type))
 }
@@ -148,7 +147,11 @@ fn check_leaf(
 }
 
 /// Each element below the root is a leaf that can be read.
-fn check_leaves(sources: &[Source], children: u64, leaves: &[SchemaElement]) -> Result<(), FileFault>
+fn check_leaves(
+    sources: &[Source],
+    children: u64,
+    leaves: &[SchemaElement],
+) -> Result<(), FileFault>
     ensures { Reads result (spec.leaves_checked sources.now children 0 leaves.now) }
 {
     for (place, element) in leaves.iter().enumerate() {

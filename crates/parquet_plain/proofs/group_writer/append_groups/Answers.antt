@@ -14,18 +14,18 @@ append_group-requires-clause-fits c =
 pub loop-rest-preserved : goal.loop-rest-preserved
 loop-rest-preserved c = record {
   text =
-    groups_step c.args.schema.now c.loop-rest.out.items c.append_group.new.out.items c.loop-rest.rest.now c.split_at.result.0.now c.split_at.result.1.now c.min.result
-    c.min.ensures c.split_at.ensures.front c.split_at.ensures.back
-    (some_left c.is_empty.result c.loop-rest.rest.now c.is_empty.ensures c.loop-rest-test.true) c.in_ok-append_group.ensures.text
-    ∙ c.loop-rest.invariant.text;
+      groups_step c.args.schema.now c.loop-rest.out.items c.append_group.new.out.items c.loop-rest.rest.now c.split_at.result.0.now c.split_at.result.1.now c.min.result
+      c.min.ensures c.split_at.ensures.front c.split_at.ensures.back
+      (some_left c.is_empty.result c.loop-rest.rest.now c.is_empty.ensures c.loop-rest-test.true) c.in_ok-append_group.ensures.text
+      ∙ c.loop-rest.invariant.text;
   entries =
-    entries_step c.args.schema.now c.loop-rest.groups.items c.push.new.self.items c.loop-rest.out.items c.append_group.new.out.items c.loop-rest.rest.now c.split_at.result.0.now c.split_at.result.1.now c.min.result
-    c.min.ensures c.split_at.ensures.front c.split_at.ensures.back
-    (some_left c.is_empty.result c.loop-rest.rest.now c.is_empty.ensures c.loop-rest-test.true) c.in_ok-append_group.ensures.text
-    (c.in_ok-push.ensures.items ∙ ap (λ g. c.loop-rest.groups.items ++ g ∷ []) c.in_ok-append_group.ensures.entry)
-    ∙ c.loop-rest.invariant.entries;
+      entries_step c.args.schema.now c.loop-rest.groups.items c.push.new.self.items c.loop-rest.out.items c.append_group.new.out.items c.loop-rest.rest.now c.split_at.result.0.now c.split_at.result.1.now c.min.result
+      c.min.ensures c.split_at.ensures.front c.split_at.ensures.back
+      (some_left c.is_empty.result c.loop-rest.rest.now c.is_empty.ensures c.loop-rest-test.true) c.in_ok-append_group.ensures.text
+      (c.in_ok-push.ensures.items ∙ ap (λ g. c.loop-rest.groups.items ++ g ∷ []) c.in_ok-append_group.ensures.entry)
+      ∙ c.loop-rest.invariant.entries;
   fits = subst (All (FitsSchema c.args.schema.now)) (sym c.split_at.ensures.back)
-    (All-drop (FitsSchema c.args.schema.now) c.min.result c.loop-rest.rest.now c.loop-rest.invariant.fits);
+      (All-drop (FitsSchema c.args.schema.now) c.min.result c.loop-rest.rest.now c.loop-rest.invariant.fits);
 }
 
 pub returns : goal.returns

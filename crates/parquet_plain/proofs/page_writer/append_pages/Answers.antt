@@ -21,13 +21,13 @@ append_values-requires-clause-placed c =
 pub loop-rest-preserved : goal.loop-rest-preserved
 loop-rest-preserved c = record {
   text =
-    pages_step c.args.column.now c.args.dictionary.now c.loop-rest.out.items c.append_values.new.out.items c.loop-rest.rest.now c.split_at.result.0.now c.split_at.result.1.now c.min.result
-    c.min.ensures c.split_at.ensures.front c.split_at.ensures.back (some_left c.is_empty.result c.loop-rest.rest.now c.is_empty.ensures c.loop-rest-test.true) c.in_ok-append_values.ensures
-    ∙ c.loop-rest.invariant.text;
+      pages_step c.args.column.now c.args.dictionary.now c.loop-rest.out.items c.append_values.new.out.items c.loop-rest.rest.now c.split_at.result.0.now c.split_at.result.1.now c.min.result
+      c.min.ensures c.split_at.ensures.front c.split_at.ensures.back (some_left c.is_empty.result c.loop-rest.rest.now c.is_empty.ensures c.loop-rest-test.true) c.in_ok-append_values.ensures
+      ∙ c.loop-rest.invariant.text;
   stand = subst (All (CanStand c.args.column.now.kind c.args.column.now.nullable)) (sym c.split_at.ensures.back)
-    (All-drop (CanStand c.args.column.now.kind c.args.column.now.nullable) c.min.result c.loop-rest.rest.now c.loop-rest.invariant.stand);
+      (All-drop (CanStand c.args.column.now.kind c.args.column.now.nullable) c.min.result c.loop-rest.rest.now c.loop-rest.invariant.stand);
   placed = subst (AreIn c.args.dictionary.now c.args.column.now.nullable) (sym c.split_at.ensures.back)
-    (AreIn-drop c.args.dictionary.now c.args.column.now.nullable c.min.result c.loop-rest.rest.now c.loop-rest.invariant.placed);
+      (AreIn-drop c.args.dictionary.now c.args.column.now.nullable c.min.result c.loop-rest.rest.now c.loop-rest.invariant.placed);
 }
 
 pub returns : goal.returns

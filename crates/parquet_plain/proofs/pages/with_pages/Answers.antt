@@ -14,12 +14,12 @@ loop-byte-preserved c =
 pub returns-in_err-walk : goal.returns-in_err-walk
 returns-in_err-walk c =
     let e = sym c.loop-byte.invariant
-        ∙ pages_next c.args.leaf.now c.args.rows c.args.span c.args.file.now c.loop-byte._byte c.args.span.ends c.loop-byte.walk (omega arith) (omega arith) in
+    ∙ pages_next c.args.leaf.now c.args.rows c.args.span c.args.file.now c.loop-byte._byte c.args.span.ends c.loop-byte.walk (omega arith) (omega arith) in
     rw e (search rules)
 
 pub returns : goal.returns
 returns c =
     elim c.loop-byte-test.branch [
-      else-loop-byte-test w ↦ sym c.loop-byte.invariant ∙ pages_out c.args.leaf.now c.args.rows c.args.span c.args.file.now c.loop-byte._byte c.args.span.ends c.loop-byte.walk (omega arith)
-    | then-loop-byte-test+then-span-walk w ↦ sym c.loop-byte.invariant ∙ pages_end c.args.leaf.now c.args.rows c.args.span c.args.file.now (c.args.span.ends - c.loop-byte._byte) c.loop-byte.walk (omega arith)
+      | else-loop-byte-test w ↦ sym c.loop-byte.invariant ∙ pages_out c.args.leaf.now c.args.rows c.args.span c.args.file.now c.loop-byte._byte c.args.span.ends c.loop-byte.walk (omega arith)
+      | then-loop-byte-test+then-span-walk w ↦ sym c.loop-byte.invariant ∙ pages_end c.args.leaf.now c.args.rows c.args.span c.args.file.now (c.args.span.ends - c.loop-byte._byte) c.loop-byte.walk (omega arith)
     ]

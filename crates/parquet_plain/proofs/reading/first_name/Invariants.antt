@@ -1,6 +1,5 @@
 -- What is left gives what the whole gives.
 use Rattle.std.proofs.Common.{◌≡◌, drop}
-
 use Rattle.parquet_plain.specs.Reading.{first_name}
 use Rattle.parquet_plain.proofs.reading.first_name.Given as goal
 
