@@ -1,5 +1,5 @@
 -- Places within the bytes: what reading gives ends there, and a fault names a place there.
-use Rattle.std.proofs.Common.{◌≡◌, ℕ, zero, suc, ◌+◌, ◌/◌, ◌%◌, ◌^◌, ◌<◌, ◌≤◌, Bool, true, false, cond, ltb, eqb, List, [], ◌∷◌, length, take, drop, get_or, refl, sym, ◌∙◌, ap, subst, arith, inl, inr, Result, Ok, Err, Option, Some, None}
+use Rattle.std.proofs.Common.{◌≡◌, ℕ, zero, suc, ◌+◌, ◌/◌, ◌%◌, ◌^◌, ◌≤◌, Bool, true, false, cond, ltb, eqb, List, length, take, drop, get_or, refl, arith, inl, inr, Result, Ok, Err, Option, Some, None}
 use Rattle.std.specs.Prelude.{ℤ, pos, ◌+ℤ◌}
 use Rattle.std.proofs.lemmas.Bool.{cases_Bool, ltb-false}
 use Rattle.thrift_compact.specs.declared.fault.ThriftFault.{ThriftFault}
@@ -14,11 +14,7 @@ use Rattle.thrift_compact.specs.Varints.{Varint, number, ends, long, varint, unz
 use Rattle.thrift_compact.specs.Values.{varint_here, varint_at, number_at, size_at, behind, binary_at, byte_at, wire_of, known, field_here, fits_16, field_at, list_at}
 use Rattle.thrift_compact.specs.Skipped.{each_end, field_end, fields_end, is_container, plain_end, list_end, pairs_end, map_end, container_end, value_end, skipped_at}
 use Rattle.thrift_compact.proofs.Standing.{size_of}
-use Rattle.thrift_compact.proofs.ReadingLaws.{varint_at_found, number_found, binary_found}
-use Rattle.thrift_compact.proofs.HeaderLaws.{list_found, field_found}
-use Rattle.thrift_compact.proofs.SkippingLaws.{value_found, skipped_found}
-use Rattle.thrift_compact.specs.Spelled.{SpellsNext, short, long as long_header, SpellsField}
-use Rattle.thrift_compact.specs.Laws.{Stands}
+use Rattle.thrift_compact.proofs.ReadingLaws.{varint_at_found}
 use Rattle.parquet_meta.specs.Faults.{place_of}
 
 -- what is read ends within so many bytes, and so does a fault

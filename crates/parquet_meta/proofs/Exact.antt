@@ -1,9 +1,9 @@
 -- What is read stands there, and what stands there is read: single values, lists, fields and structs.
-use Rattle.std.proofs.Common.{◌≡◌, ◌≢◌, ℕ, zero, suc, ◌+◌, ◌<◌, ◌≤◌, Bool, true, false, cond, eqb, List, [], ◌∷◌, ◌++◌, length, refl, sym, ap, ◌∙◌, subst, arith, inl, inr, Result, Ok, Err, Option, Some, None}
-use Rattle.std.specs.Prelude.{ℤ, pos, IsUtf8}
+use Rattle.std.proofs.Common.{◌≡◌, ℕ, zero, suc, ◌+◌, ◌<◌, ◌≤◌, Bool, true, false, cond, List, [], ◌∷◌, ◌++◌, length, refl, sym, ap, ◌∙◌, subst, arith, Result, Ok, Err, Some}
+use Rattle.std.specs.Prelude.{ℤ, pos}
 use Rattle.std.specs.Bool.{MatchBool}
 use Rattle.std.specs.Str.{is_utf8}
-use Rattle.std.proofs.lemmas.Bool.{cases_Bool, eqb-true, eq-eqb}
+use Rattle.std.proofs.lemmas.Bool.{eqb-true, eq-eqb}
 use Rattle.std.proofs.lemmas.List.{length-append}
 use Rattle.std.proofs.lemmas.Str.{IsUtf8-from_is_utf8, is_utf8-from_IsUtf8}
 use Rattle.thrift_compact.specs.declared.fault.ThriftFault.{ThriftFault}
@@ -15,7 +15,7 @@ use Rattle.thrift_compact.specs.declared.wire.ListHead.{ListHead}
 use Rattle.thrift_compact.specs.Values.{wire_of, number_at, binary_at, list_at, field_at}
 use Rattle.thrift_compact.specs.Skipped.{skipped_at}
 use Rattle.thrift_compact.specs.Writing.{code_of}
-use Rattle.thrift_compact.specs.Spelled.{SpellsNumber, SpellsBinary, SpellsList, SpellsField, SpellsNext, short, long, SpellsValue}
+use Rattle.thrift_compact.specs.Spelled.{SpellsNumber, SpellsList, SpellsField, SpellsNext, short, long, SpellsValue}
 use Rattle.thrift_compact.specs.Laws.{Stands}
 use Rattle.thrift_compact.proofs.Standing.{size_of, stands_nothing, stands_first, stands_second, stands_join}
 use Rattle.thrift_compact.proofs.ReadingLaws.{number_found, number_only, binary_found, binary_only}
@@ -300,7 +300,7 @@ fields_taken step field takes piece zero last known whole at end text few h s = 
 fields_taken step field takes piece (suc most) last known whole at end text few (stop spelled) s = (
   piece.start + at,
   bind_from (field_in piece last at) (λ f. field_then (step piece) (λ id k to. fields_from step piece most id k to) f.0 (piece.start + at) f.1 known) (fields.Stop, end)
-  (ap (located piece.start) (field_only piece.bytes last at fields.Stop end text spelled s)),
+      (ap (located piece.start) (field_only piece.bytes last at fields.Stop end text spelled s)),
 )
 fields_taken step field takes piece (suc most) last known whole at end text few (next id wire after head inner others spelled here more all) s =
     let from = at + length head in
@@ -313,10 +313,10 @@ fields_taken step field takes piece (suc most) last known whole at end text few 
     let go = fields_taken step field takes piece most id after whole middle end others fewer more (stands_second piece.bytes from inner others end rest) in (
       go.0,
       bind_from (field_in piece last at) (λ f. field_then (step piece) (λ i k to. fields_from step piece most i k to) f.0 (piece.start + at) f.1 known) (fields.Next id wire, from)
-      (ap (located piece.start) (field_only piece.bytes last at (fields.Next id wire) from head spelled (stands_first piece.bytes at head (inner ++ others) end split)))
-      ∙ bind_from (step piece id wire (piece.start + at) from known) (λ k. fields_from step piece most id k.0 k.1) (after, middle)
-      (takes piece id wire (piece.start + at) from known after middle inner (stands_first piece.bytes from inner others end rest) here)
-      ∙ go.1,
+          (ap (located piece.start) (field_only piece.bytes last at (fields.Next id wire) from head spelled (stands_first piece.bytes at head (inner ++ others) end split)))
+          ∙ bind_from (step piece id wire (piece.start + at) from known) (λ k. fields_from step piece most id k.0 k.1) (after, middle)
+          (takes piece id wire (piece.start + at) from known after middle inner (stands_first piece.bytes from inner others end rest) here)
+          ∙ go.1,
     )
 
 pub struct_finds : {A D : Type 0} (step : Step D) (field : ℤ → Wire → List ℕ → D → D → Type 0) (none : D) (made : ℕ → D → Result A FileFault) (known_of : A → D) (P : A → Type 0) → StepFinds step field

@@ -1,14 +1,13 @@
 -- The footer of a file is read exactly where the file ends with its text, what stands behind it, their length and the magic.
-use Rattle.std.proofs.Common.{◌≡◌, ℕ, ◌+◌, ◌-◌, ◌<◌, ◌≤◌, Bool, true, false, not, cond, ltb, List, [], ◌∷◌, ◌++◌, length, take, drop, refl, sym, ap, ◌∙◌, subst, arith, inl, inr, Result, Ok, Err}
+use Rattle.std.proofs.Common.{◌≡◌, ℕ, ◌+◌, ◌-◌, ◌≤◌, Bool, true, false, not, cond, ltb, List, ◌++◌, length, take, drop, refl, sym, ap, ◌∙◌, subst, arith, Ok, Err}
 use Rattle.std.specs.Prelude.{codes, ◌&&◌}
 use Rattle.std.specs.Str.{bytes_eq}
 use Rattle.std.specs.Int.{w32, from_le_bytes}
-use Rattle.std.proofs.lemmas.Bool.{cases_Bool, ltb-false, le-ltb}
+use Rattle.std.proofs.lemmas.Bool.{ltb-false, le-ltb}
 use Rattle.std.proofs.lemmas.List.{append_assoc, length-append, take-append-drop, take_at, drop_at, length-take-le, length-drop, drop-drop}
 use Rattle.std.proofs.lemmas.Slice.Eq.{bytes_eq-Decides}
 use Rattle.thrift_compact.specs.Laws.{Stands}
-use Rattle.thrift_compact.proofs.Standing.{size_of, front_of, stands_make}
-use Rattle.parquet_meta.specs.declared.fault.FileFault.{FileFault}
+use Rattle.thrift_compact.proofs.Standing.{front_of, stands_make}
 use Rattle.parquet_meta.specs.declared.fault.FileFault.TheVariants as faults
 use Rattle.parquet_meta.specs.declared.meta.FileMeta.{FileMeta}
 use Rattle.parquet_meta.specs.Faults.{◌>>=◌}
@@ -65,7 +64,7 @@ framed : (file : List ℕ) (piece : Piece) → footer_found file ≡ Ok piece �
 unfolding footer_found
 framed file piece e =
     let a = guard_ok (not (is_size (length file))) faults.Short
-        (cond (not (has_magic file)) (Err faults.Magic) (cond (ltb (length file) (footer_len file + 12)) (Err faults.Footer) (Ok (footer_piece file (footer_len file))))) piece e in
+    (cond (not (has_magic file)) (Err faults.Magic) (cond (ltb (length file) (footer_len file + 12)) (Err faults.Footer) (Ok (footer_piece file (footer_len file))))) piece e in
     let b = guard_ok (not (has_magic file)) faults.Magic (cond (ltb (length file) (footer_len file + 12)) (Err faults.Footer) (Ok (footer_piece file (footer_len file)))) piece a.1 in
     let c = guard_ok (ltb (length file) (footer_len file + 12)) faults.Footer (Ok (footer_piece file (footer_len file))) piece b.1 in
     let sizes = both_true (not (ltb (length file) 12)) (not (ltb 67108864 (length file))) (not_false (is_size (length file)) a.0) in
@@ -150,7 +149,7 @@ joined_found pages body size four counted small =
     let front : take 4 file ≡ codes "PAR1" = take_at (codes "PAR1") (pages ++ (body ++ (size ++ codes "PAR1"))) 4 refl in
     let back : drop (length file - 4) file ≡ codes "PAR1" = drop-magic pages body size (length file - 4) four (omega (arith, n)) in
     let magic : has_magic file ≡ true = true_both (bytes_eq (take 4 file) (codes "PAR1")) (bytes_eq (drop (length file - 4) file) (codes "PAR1"))
-        ((bytes_eq-Decides (take 4 file) (codes "PAR1")).1 front) ((bytes_eq-Decides (drop (length file - 4) file) (codes "PAR1")).1 back) in
+    ((bytes_eq-Decides (take 4 file) (codes "PAR1")).1 front) ((bytes_eq-Decides (drop (length file - 4) file) (codes "PAR1")).1 back) in
     let tail : take 4 (drop (length file - 8) file) ≡ size
     = ap (λ (bs : List ℕ). take 4 bs) (drop-size pages body size (length file - 8) (omega (arith, n))) ∙ take_at size (codes "PAR1") 4 four in
     let len : footer_len file ≡ length body = ap (from_le_bytes w32) tail ∙ counted in

@@ -1,5 +1,5 @@
 -- The structs of a file's metadata are read exactly as their texts say.
-use Rattle.std.proofs.Common.{◌≡◌, ℕ, List, refl, ap, Result, Ok, Err, Option, Some, None}
+use Rattle.std.proofs.Common.{◌≡◌, ℕ, List, refl, ap, Ok, Option, Some, None}
 use Rattle.std.specs.Prelude.{ℤ, pos}
 use Rattle.std.specs.Ordering.{int_eq}
 use Rattle.thrift_compact.specs.declared.wire.Wire.TheVariants as wires

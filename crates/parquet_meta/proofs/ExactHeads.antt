@@ -1,5 +1,5 @@
 -- The head of a page is read exactly as its text says.
-use Rattle.std.proofs.Common.{◌≡◌, ℕ, ◌+◌, ◌≤◌, Bool, true, false, ltb, List, ◌++◌, length, drop, refl, sym, ap, ◌∙◌, subst, arith, inl, inr, Result, Ok, Err, Option, Some, None}
+use Rattle.std.proofs.Common.{◌≡◌, ℕ, ◌+◌, ◌≤◌, Bool, true, false, ltb, List, ◌++◌, length, drop, refl, sym, ap, ◌∙◌, subst, arith, inl, inr, Result, Ok, Option, Some, None}
 use Rattle.std.specs.Prelude.{ℤ, pos, IsSome}
 use Rattle.std.specs.Ordering.{int_eq}
 use Rattle.std.proofs.lemmas.Bool.{cases_Bool, ltb-false, le-ltb}
@@ -269,11 +269,11 @@ pub page_head_ok : (at : ℕ) (numbers : HeadNumbers) (head : PageHead) → page
 unfolding page_head
 page_head_ok at numbers head e =
     let whole : ℤ → Option ℤ → ℤ → Option DataPageHead → Option DictionaryPageHead → PageHead
-        = λ t u c d i. record { page_type = t; uncompressed_page_size = u; compressed_page_size = c; data_page = d; dictionary_page = i; data_page_v2 = numbers.data_page_v2 } in
+    = λ t u c d i. record { page_type = t; uncompressed_page_size = u; compressed_page_size = c; data_page = d; dictionary_page = i; data_page_v2 = numbers.data_page_v2 } in
     let p = bind_ok (narrow at numbers.page_type) (λ t. narrow_optional at numbers.uncompressed_page_size >>= λ u. narrow at numbers.compressed_page_size >>= λ c.
-        data_head at numbers.data_page >>= λ d. dictionary_head at numbers.dictionary_page >>= λ i. Ok (whole t u c d i)) head e in
+    data_head at numbers.data_page >>= λ d. dictionary_head at numbers.dictionary_page >>= λ i. Ok (whole t u c d i)) head e in
     let q = bind_ok (narrow_optional at numbers.uncompressed_page_size) (λ u. narrow at numbers.compressed_page_size >>= λ c.
-        data_head at numbers.data_page >>= λ d. dictionary_head at numbers.dictionary_page >>= λ i. Ok (whole p.0 u c d i)) head p.2 in
+    data_head at numbers.data_page >>= λ d. dictionary_head at numbers.dictionary_page >>= λ i. Ok (whole p.0 u c d i)) head p.2 in
     let r = bind_ok (narrow at numbers.compressed_page_size) (λ c. data_head at numbers.data_page >>= λ d. dictionary_head at numbers.dictionary_page >>= λ i. Ok (whole p.0 q.0 c d i)) head q.2 in
     let s = bind_ok (data_head at numbers.data_page) (λ d. dictionary_head at numbers.dictionary_page >>= λ i. Ok (whole p.0 q.0 r.0 d i)) head r.2 in
     let w = bind_ok (dictionary_head at numbers.dictionary_page) (λ i. Ok (whole p.0 q.0 r.0 s.0 i)) head s.2 in
@@ -284,10 +284,10 @@ page_head_ok at numbers head e =
     let data_page = data_ok at numbers.data_page s.0 s.1 in
     let dictionary_page = dictionary_ok at numbers.dictionary_page w.0 w.1 in
     let range : IsInRange (whole p.0 q.0 r.0 s.0 w.0)
-        = record { page_type = page_type.0; uncompressed = uncompressed.1; compressed = compressed.0; data_page = data_page.1; dictionary_page = dictionary_page.1 } in (
+    = record { page_type = page_type.0; uncompressed = uncompressed.1; compressed = compressed.0; data_page = data_page.1; dictionary_page = dictionary_page.1 } in (
       numbers_equal numbers.page_type p.0 numbers.uncompressed_page_size q.0 numbers.compressed_page_size r.0 numbers.data_page (optional_data s.0) numbers.dictionary_page (optional_dictionary w.0) numbers.data_page_v2
-      page_type.1 uncompressed.0 compressed.1 data_page.0 dictionary_page.0
-      ∙ ap head_numbers same,
+          page_type.1 uncompressed.0 compressed.1 data_page.0 dictionary_page.0
+          ∙ ap head_numbers same,
       subst IsInRange same range,
     )
 
@@ -319,7 +319,7 @@ unfolding page_head_at
 heads_found file at page e =
     let piece : Piece = record { bytes = drop at file; start = at } in
     let g = guard_ok (ltb (length file) at) (faults.Thrift (length file))
-        (numbers_in piece 0 0 >>= λ numbers. page_head at numbers.0 >>= λ head. Ok (record { head = head; body = at + numbers.1 })) page e in
+    (numbers_in piece 0 0 >>= λ numbers. page_head at numbers.0 >>= λ head. Ok (record { head = head; body = at + numbers.1 })) page e in
     let within : at ≤ length file = ltb-false (length file) at g.0 in
     let p = bind_ok (numbers_in piece 0 0) (λ numbers. page_head at numbers.0 >>= λ head. Ok (record { head = head; body = at + numbers.1 })) page g.1 in
     let q = bind_ok (page_head at p.0.0) (λ head. Ok (record { head = head; body = at + p.0.1 })) page p.2 in

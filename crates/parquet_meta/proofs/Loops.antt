@@ -1,9 +1,8 @@
 -- Steps of the loops over elements and over fields.
-use Rattle.std.proofs.Common.{◌≡◌, ℕ, zero, suc, ◌+◌, ◌-◌, ◌<◌, ◌≤◌, List, [], ◌∷◌, ◌++◌, length, refl, sym, ap, ◌∙◌, subst, arith, Result, Ok, Err}
-use Rattle.std.specs.Prelude.{ℤ, pos}
+use Rattle.std.proofs.Common.{◌≡◌, ℕ, suc, ◌+◌, ◌-◌, ◌<◌, List, [], ◌∷◌, ◌++◌, refl, sym, ap, ◌∙◌, subst, arith, Result, Ok, Err}
+use Rattle.std.specs.Prelude.{ℤ}
 use Rattle.std.proofs.lemmas.List.{append_assoc}
 use Rattle.thrift_compact.specs.declared.wire.Wire.{Wire}
-use Rattle.thrift_compact.specs.declared.wire.Field.{Field}
 use Rattle.thrift_compact.specs.declared.wire.Field.TheVariants as fields
 use Rattle.parquet_meta.specs.declared.fault.FileFault.{FileFault}
 use Rattle.parquet_meta.specs.declared.fault.FileFault.TheVariants as faults
@@ -39,9 +38,9 @@ pub element_fault : {A : Type 0} (element : Piece → ℕ → ℕ → Result (A 
 unfolding elements_from
 element_fault element piece now place count counter at found whole f same more rest fault =
     fault_carried f (element now place at) whole (λ g e.
-      let left : count - counter ≡ suc (count - (counter + 1)) = omega arith in
-      let here : element piece place at ≡ Err g = subst (λ (p : Piece). element p place at ≡ Err g) same e in
-      sym rest ∙ ap (λ k. Before found (elements_from (element piece place) k at)) left ∙ rw here refl)
+    let left : count - counter ≡ suc (count - (counter + 1)) = omega arith in
+    let here : element piece place at ≡ Err g = subst (λ (p : Piece). element p place at ≡ Err g) same e in
+    sym rest ∙ ap (λ k. Before found (elements_from (element piece place) k at)) left ∙ rw here refl)
     fault
 
 joined : {A : Type 0} (found : List A) (x : A) (r : Result (List A × ℕ) FileFault)
@@ -78,7 +77,7 @@ pub field_fault : {D : Type 0} (step : Step D) (piece now : Piece) (most : ℕ) 
     → now ≡ piece → 0 < most → fields_from step piece most last known at ≡ whole → FaultOf f (field_in now last at) → FaultOf f whole
 field_fault step piece now most last known at whole f same some rest fault =
     fault_carried f (field_in now last at) whole (λ g e.
-      sym (fields_open step piece now most last known at whole same some rest) ∙ rw e refl)
+    sym (fields_open step piece now most last known at whole same some rest) ∙ rw e refl)
     fault
 
 pub put_next : {D : Type 0} (step : Step D) (piece now after : Piece) (most : ℕ) (last id : ℤ) (wire : Wire) (known then : D) (at place from to : ℕ) (whole : Result ((D × ℕ) × ℕ) FileFault)
@@ -95,9 +94,9 @@ pub put_fault : {D : Type 0} (step : Step D) (piece now after : Piece) (most : �
     → place ≡ now.start + at → FaultOf f (step after id wire place from known) → FaultOf f whole
 put_fault step piece now after most last id wire known at place from whole f same again some rest head here fault =
     fault_carried f (step after id wire place from known) whole (λ g e.
-      let there : piece.start + at ≡ place = ap (λ (p : Piece). p.start + at) (sym same) ∙ sym here in
-      let read : step piece id wire place from known ≡ Err g = subst (λ (p : Piece). step p id wire place from known ≡ Err g) (again ∙ same) e in
-      sym (fields_open step piece now most last known at whole same some rest) ∙ rw (head, there, read) refl)
+    let there : piece.start + at ≡ place = ap (λ (p : Piece). p.start + at) (sym same) ∙ sym here in
+    let read : step piece id wire place from known ≡ Err g = subst (λ (p : Piece). step p id wire place from known ≡ Err g) (again ∙ same) e in
+    sym (fields_open step piece now most last known at whole same some rest) ∙ rw (head, there, read) refl)
     fault
 
 -- ---- a field that isn't used

@@ -1,5 +1,5 @@
 -- A cursor over a piece, and a reader of the file.
-use Rattle.std.proofs.Common.{◌≡◌, ℕ, ◌+◌, ◌<◌, ◌≤◌, ◌^◌, List, length, refl, sym, ap, ◌∙◌, subst, arith, Result, Ok, Err}
+use Rattle.std.proofs.Common.{◌≡◌, ℕ, ◌+◌, ◌<◌, ◌≤◌, ◌^◌, List, length, refl, ap, subst, arith, Result, Ok, Err}
 use Rattle.std.specs.Prelude.{ℤ, IfErr, IfOk}
 use Rattle.thrift_compact.specs.declared.fault.ThriftFault.{ThriftFault}
 use Rattle.thrift_compact.specs.declared.wire.Wire.{Wire}
@@ -15,7 +15,7 @@ use Rattle.thrift_compact.proofs.ReadingLaws.{number_found, binary_found}
 use Rattle.thrift_compact.proofs.HeaderLaws.{list_found, field_found}
 use Rattle.thrift_compact.proofs.SkippingLaws.{skipped_found}
 use Rattle.parquet_meta.specs.Faults.{place_of, located}
-use Rattle.parquet_meta.specs.Pieces.{Piece, Reading, Came, MovesBy}
+use Rattle.parquet_meta.specs.Pieces.{Piece, Reading, MovesBy}
 use Rattle.parquet_meta.proofs.Bounds.{Stays, behind_it}
 
 -- where a cursor is, in a piece of the file
@@ -64,7 +64,7 @@ pub moved : {X Y : Type 0} (view : X → Y) (old new : Place) (start : ℕ) (r :
 moved view old new start (Ok x) read moves stays goes =
     let within : new.at ≤ length old.bytes = stays_end behind_it (length old.bytes) read (view x, new.at) moves.0 stays in
     let ahead : old.at ≤ new.at = goes_end old.at read (view x) new.at moves.0 goes in
-    let same : record {bytes = new.bytes; start = start} ≡ record {bytes = old.bytes; start = start}
+    let same : record { bytes = new.bytes; start = start } ≡ record { bytes = old.bytes; start = start }
     = ap (λ (bs : List ℕ). let p : Piece = record { bytes = bs; start = start } in p) moves.1 in
     (ap (located start) moves.0, same, ahead, within)
 moved view old new start (Err f) read moves stays goes = ap (located start) moves.0

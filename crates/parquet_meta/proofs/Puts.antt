@@ -1,10 +1,10 @@
 -- Fields that are written, one behind another.
-use Rattle.std.proofs.Common.{◌≡◌, ℕ, List, [], ◌∷◌, ◌++◌, refl, sym, ap, ◌∙◌, Option, Some, None, Result, Ok, Err}
+use Rattle.std.proofs.Common.{◌≡◌, ℕ, List, [], ◌∷◌, ◌++◌, ap, ◌∙◌, Option, None, Result, Ok, Err}
 use Rattle.std.specs.Prelude.{ℤ, OnOk}
 use Rattle.std.proofs.lemmas.List.{append_assoc}
 use Rattle.thrift_compact.specs.declared.wire.Wire.{Wire}
 use Rattle.thrift_compact.specs.Writing.{field_bytes}
-use Rattle.parquet_meta.specs.Written.{Written, fields_text, always, Writes, texts_of}
+use Rattle.parquet_meta.specs.Written.{Written, fields_text, always, Writes}
 
 pub put_some : (old middle new : List ℕ) (last id now after header : ℤ) (wire : Wire) (text : List ℕ) → now ≡ id → after ≡ last → header ≡ id
     → middle ≡ old ++ field_bytes after header wire → new ≡ middle ++ text → Writes old last new now (always id wire text)

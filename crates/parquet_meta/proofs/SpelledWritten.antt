@@ -1,11 +1,10 @@
 -- What is written spells the metadata or the head, and so reads back.
-use Rattle.std.proofs.Common.{◌≡◌, ℕ, ◌+◌, ◌*◌, ◌<◌, ◌≤◌, ◌^◌, Bool, true, false, List, [], ◌∷◌, ◌++◌, length, take, drop, refl, sym, ap, ◌∙◌, subst, arith, inr, Result, Ok, Option, Some, None}
+use Rattle.std.proofs.Common.{◌≡◌, ℕ, ◌+◌, ◌<◌, ◌^◌, Bool, true, false, List, [], ◌∷◌, ◌++◌, length, take, refl, sym, ap, ◌∙◌, subst, arith, inr, Option, Some, None}
 use Rattle.std.specs.Prelude.{ℤ, pos, negsuc, codes}
-use Rattle.std.specs.Int.{w32, to_le_bytes, from_le_bytes}
+use Rattle.std.specs.Int.{w32, to_le_bytes}
 use Rattle.std.proofs.lemmas.Bool.{ltb-true}
 use Rattle.std.proofs.lemmas.List.{length-append, take_at}
 use Rattle.std.proofs.lemmas.Nat.{from_le_bytes-to_le_bytes_4}
-use Rattle.thrift_compact.specs.declared.fault.ThriftFault.{ThriftFault}
 use Rattle.thrift_compact.specs.declared.wire.Wire.{Wire}
 use Rattle.thrift_compact.specs.declared.wire.Wire.TheVariants as wires
 use Rattle.thrift_compact.specs.declared.wire.Field.TheVariants as fields
@@ -37,7 +36,7 @@ use Rattle.parquet_meta.specs.declared.known.DictionaryKnown.{DictionaryKnown}
 use Rattle.parquet_meta.specs.Footer.{no_file, no_element, no_group, no_chunk, no_column}
 use Rattle.parquet_meta.specs.Heads.{no_head, no_data, no_dictionary, is_in_range}
 use Rattle.parquet_meta.specs.Written.{Written, fields_text, always, if_some, texts_of, list_text, column_text, chunk_text, group_text, element_text, footer_text, data_text, dictionary_text, v2_text, head_text}
-use Rattle.parquet_meta.specs.Grammar.{SpellsText, SpellsAll, SpellsElements, Holds, SpellsStruct, stop, next, ColumnField, column_known, SpellsColumn, ChunkField, chunk_known, SpellsChunk, GroupField, group_known, SpellsGroup, ElementField, element_known, SpellsElement, FileField, file_known, SpellsFile, DataField, data_known, SpellsData, DictionaryField, dictionary_known, SpellsDictionary, SpellsV2, HeadField, head_known, HasHeader, data_numbers, dictionary_numbers, optional_data, optional_dictionary, head_numbers, SizeInRange, DataInRange, DictionaryInRange, IsInRange, SpellsHead}
+use Rattle.parquet_meta.specs.Grammar.{SpellsText, SpellsAll, SpellsElements, SpellsStruct, stop, next, ColumnField, column_known, SpellsColumn, ChunkField, chunk_known, SpellsChunk, GroupField, group_known, SpellsGroup, ElementField, element_known, SpellsElement, FileField, file_known, SpellsFile, DataField, data_known, SpellsData, DictionaryField, dictionary_known, SpellsDictionary, SpellsV2, HeadField, head_known, data_numbers, dictionary_numbers, optional_data, optional_dictionary, head_numbers, SizeInRange, DataInRange, DictionaryInRange, IsInRange}
 use Rattle.parquet_meta.specs.Laws.{IsNarrow, IfThere, AllFit, IsShort, IsText, FitsColumn, FitsChunk, FitsGroup, FitsElement, FitsFile, FootersReadBack, HeadsReadBack}
 use Rattle.parquet_meta.proofs.ExactHeads.{heads_taken}
 use Rattle.parquet_meta.proofs.ExactFile.{joined_taken}

@@ -1,6 +1,6 @@
 -- What the footer of a file reads as (Parquet format, "File format" and parquet.thrift: FileMetaData, SchemaElement,
 -- RowGroup, ColumnChunk, ColumnMetaData).
-use Rattle.std.specs.Prelude.{if◌then◌else◌, ℕ, ◌+◌, ◌-◌, nat_lt, ◌||◌, ◌&&◌, not, Bool, List, length, take, drop, codes, ℤ, pos, Option, Some, None, Result, Ok, Err}
+use Rattle.std.specs.Prelude.{if◌then◌else◌, ℕ, ◌+◌, ◌-◌, nat_lt, ◌&&◌, not, Bool, List, length, take, drop, codes, ℤ, pos, Some, None, Result, Ok, Err}
 use Rattle.std.specs.Ordering.{int_eq}
 use Rattle.std.specs.Str.{bytes_eq}
 use Rattle.std.specs.Int.{w32, from_le_bytes}

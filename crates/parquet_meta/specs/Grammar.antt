@@ -1,14 +1,13 @@
 -- Which texts are the metadata of a file and the head of a page, as relations on whole texts, apart from reading and from
 -- writing (Thrift compact protocol, "Struct"; Parquet format, parquet.thrift). A struct is fields, one behind another, and
 -- a stop; a field is a header and a value; of a field that comes twice the last value counts; each needed field is there.
-use Rattle.std.specs.Prelude.{◌≡◌, ◌↔◌, ℕ, ◌+◌, ◌≤◌, Bool, true, false, List, [], ◌∷◌, ◌++◌, length, codes, ℤ, pos, Option, Some, None, IsUtf8, IsSome, Ok}
+use Rattle.std.specs.Prelude.{◌≡◌, ℕ, ◌+◌, ◌≤◌, true, false, List, [], ◌∷◌, ◌++◌, length, codes, ℤ, pos, Option, Some, None, IsUtf8, IsSome}
 use Rattle.std.specs.Bool.{MatchBool}
 use Rattle.std.specs.Ordering.{int_eq}
 use Rattle.std.specs.Int.{w32, from_le_bytes}
 use Rattle.thrift_compact.specs.declared.wire.Wire.{Wire}
 use Rattle.thrift_compact.specs.declared.wire.Wire.TheVariants as wires
 use Rattle.thrift_compact.specs.declared.wire.Field.TheVariants as fields
-use Rattle.thrift_compact.specs.declared.wire.ListHead.{ListHead}
 use Rattle.thrift_compact.specs.Spelled.{SpellsNumber, SpellsBinary, SpellsList, SpellsField, SpellsValue}
 use Rattle.parquet_meta.specs.declared.meta.FileMeta.{FileMeta}
 use Rattle.parquet_meta.specs.declared.meta.SchemaElement.{SchemaElement}

@@ -1,11 +1,9 @@
 -- What a used field of a struct reads as, with faults at their places in the file (Thrift compact protocol; Parquet
 -- format, parquet.thrift).
-use Rattle.std.specs.Prelude.{if◌then◌else◌, ℕ, zero, suc, ◌+◌, ◌==◌, Bool, List, [], ◌∷◌, length, ℤ, Result, Ok, Err}
+use Rattle.std.specs.Prelude.{if◌then◌else◌, ℕ, zero, suc, ◌==◌, Bool, List, [], ◌∷◌, ℤ, Result, Ok, Err}
 use Rattle.std.specs.Str.{is_utf8}
 use Rattle.thrift_compact.specs.declared.wire.Wire.{Wire}
-use Rattle.thrift_compact.specs.declared.wire.Wire.TheVariants as wires
 use Rattle.thrift_compact.specs.declared.wire.Field.{Field}
-use Rattle.thrift_compact.specs.declared.wire.Field.TheVariants as fields
 use Rattle.thrift_compact.specs.declared.wire.ListHead.{ListHead}
 use Rattle.thrift_compact.specs.Values.{number_at, binary_at, field_at, list_at}
 use Rattle.thrift_compact.specs.Skipped.{skipped_at}

@@ -58,11 +58,7 @@ impl Element for Text {
 }
 
 /// The value of a field that is a list of texts.
-fn read_texts(
-    alloc: Global,
-    reader: &mut Reader<'_>,
-    header: Header,
-) -> Result<Texts, FileFault>
+fn read_texts(alloc: Global, reader: &mut Reader<'_>, header: Header) -> Result<Texts, FileFault>
     ensures { Moves reader.old reader.new result (typed wires.List header.wire header.place (list_in wires.Binary text_in reader.old.piece header.place reader.old.at)) }
 {
     let texts = read_list::<Text>(alloc, reader, header)?;
@@ -72,7 +68,12 @@ fn read_texts(
 impl Fields<Global> for ColumnKnown {
     ghost step = { spec.column_step };
 
-    fn put(&mut self, alloc: Global, reader: &mut Reader<'_>, header: Header) -> Result<(), FileFault> {
+    fn put(
+        &mut self,
+        alloc: Global,
+        reader: &mut Reader<'_>,
+        header: Header,
+    ) -> Result<(), FileFault> {
         match header.id {
             2 => {
                 self.encodings = Some(read_list(alloc, reader, header)?);
@@ -169,7 +170,12 @@ fn read_column(
 impl Fields<Global> for GroupKnown {
     ghost step = { spec.group_step };
 
-    fn put(&mut self, alloc: Global, reader: &mut Reader<'_>, header: Header) -> Result<(), FileFault> {
+    fn put(
+        &mut self,
+        alloc: Global,
+        reader: &mut Reader<'_>,
+        header: Header,
+    ) -> Result<(), FileFault> {
         match header.id {
             1 => {
                 self.columns = Some(read_list(alloc, reader, header)?);
@@ -204,7 +210,11 @@ impl Element for ColumnChunk {
     }
 
     #[tactic(auto, unfolding(crate::specs::Footer::chunk_in))]
-    fn read(alloc: Global, reader: &mut Reader<'_>, _place: usize) -> Result<ColumnChunk, FileFault> {
+    fn read(
+        alloc: Global,
+        reader: &mut Reader<'_>,
+        _place: usize,
+    ) -> Result<ColumnChunk, FileFault> {
         let none = ChunkKnown {
             file_path: None,
             file_offset: None,
@@ -218,7 +228,12 @@ impl Element for ColumnChunk {
 impl Fields<Global> for ChunkKnown {
     ghost step = { spec.chunk_step };
 
-    fn put(&mut self, alloc: Global, reader: &mut Reader<'_>, header: Header) -> Result<(), FileFault> {
+    fn put(
+        &mut self,
+        alloc: Global,
+        reader: &mut Reader<'_>,
+        header: Header,
+    ) -> Result<(), FileFault> {
         match header.id {
             1 => {
                 self.file_path = Some(read_text(alloc, reader, header)?);
@@ -287,7 +302,12 @@ fn group_of(stop: usize, known: GroupKnown) -> Result<RowGroup, FileFault>
 impl Fields<Global> for ElementKnown {
     ghost step = { spec.element_step };
 
-    fn put(&mut self, alloc: Global, reader: &mut Reader<'_>, header: Header) -> Result<(), FileFault> {
+    fn put(
+        &mut self,
+        alloc: Global,
+        reader: &mut Reader<'_>,
+        header: Header,
+    ) -> Result<(), FileFault> {
         match header.id {
             1 => {
                 self.physical_type = Some(read_number(reader, header, Wire::I32)?);
@@ -342,7 +362,11 @@ impl Element for SchemaElement {
     }
 
     #[tactic(auto, unfolding(crate::specs::Footer::element_in))]
-    fn read(alloc: Global, reader: &mut Reader<'_>, _place: usize) -> Result<SchemaElement, FileFault> {
+    fn read(
+        alloc: Global,
+        reader: &mut Reader<'_>,
+        _place: usize,
+    ) -> Result<SchemaElement, FileFault> {
         let none = ElementKnown {
             physical_type: None,
             repetition_type: None,
@@ -358,7 +382,12 @@ impl Element for SchemaElement {
 impl Fields<Global> for FileKnown {
     ghost step = { spec.file_step };
 
-    fn put(&mut self, alloc: Global, reader: &mut Reader<'_>, header: Header) -> Result<(), FileFault> {
+    fn put(
+        &mut self,
+        alloc: Global,
+        reader: &mut Reader<'_>,
+        header: Header,
+    ) -> Result<(), FileFault> {
         match header.id {
             1 => {
                 self.version = Some(read_number(reader, header, Wire::I32)?);

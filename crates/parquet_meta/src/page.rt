@@ -17,7 +17,12 @@ use thrift_compact::Wire;
 impl Fields<()> for DataKnown {
     ghost step = { spec.data_step };
 
-    fn put(&mut self, _memory: (), reader: &mut Reader<'_>, header: Header) -> Result<(), FileFault> {
+    fn put(
+        &mut self,
+        _memory: (),
+        reader: &mut Reader<'_>,
+        header: Header,
+    ) -> Result<(), FileFault> {
         match header.id {
             1 => {
                 self.num_values = Some(read_number(reader, header, Wire::I32)?);
@@ -69,7 +74,12 @@ fn read_data(reader: &mut Reader<'_>, header: Header) -> Result<DataNumbers, Fil
 impl Fields<()> for DictionaryKnown {
     ghost step = { spec.dictionary_step };
 
-    fn put(&mut self, _memory: (), reader: &mut Reader<'_>, header: Header) -> Result<(), FileFault> {
+    fn put(
+        &mut self,
+        _memory: (),
+        reader: &mut Reader<'_>,
+        header: Header,
+    ) -> Result<(), FileFault> {
         match header.id {
             1 => {
                 self.num_values = Some(read_number(reader, header, Wire::I32)?);
@@ -94,10 +104,7 @@ fn dictionary_of(stop: usize, known: DictionaryKnown) -> Result<DictionaryNumber
 }
 
 #[tactic(auto, unfolding(crate::specs::Heads::dictionary_in))]
-fn read_dictionary(
-    reader: &mut Reader<'_>,
-    header: Header,
-) -> Result<DictionaryNumbers, FileFault>
+fn read_dictionary(reader: &mut Reader<'_>, header: Header) -> Result<DictionaryNumbers, FileFault>
     ensures { Moves reader.old reader.new result (typed wires.Struct header.wire header.place (spec.dictionary_in reader.old.piece header.place reader.old.at)) }
 {
     header.expect(Wire::Struct)?;
@@ -112,7 +119,12 @@ fn read_dictionary(
 impl Fields<()> for HeadKnown {
     ghost step = { spec.head_step };
 
-    fn put(&mut self, _memory: (), reader: &mut Reader<'_>, header: Header) -> Result<(), FileFault> {
+    fn put(
+        &mut self,
+        _memory: (),
+        reader: &mut Reader<'_>,
+        header: Header,
+    ) -> Result<(), FileFault> {
         match header.id {
             1 => {
                 self.page_type = Some(read_number(reader, header, Wire::I32)?);
@@ -146,7 +158,12 @@ impl Fields<()> for HeadKnown {
 }
 
 /// A page of a type needs a value.
-fn needed_for<T>(stop: usize, page_type: i64, wanted: i64, value: &Option<T>) -> Result<(), FileFault>
+fn needed_for<T>(
+    stop: usize,
+    page_type: i64,
+    wanted: i64,
+    value: &Option<T>,
+) -> Result<(), FileFault>
     ensures { result ≡ spec.needed_for stop page_type wanted value.now }
 {
     match value {

@@ -1,5 +1,7 @@
 //! A file of one row, its parts written and read again, and damaged ones.
-use crate::{FileFault, FileMeta, PageAt, read_footer, read_page_head, write_footer, write_page_head};
+use crate::{
+    FileFault, FileMeta, PageAt, read_footer, read_page_head, write_footer, write_page_head,
+};
 use std::alloc::Global;
 use std::test::Fail;
 
@@ -58,7 +60,10 @@ fn page_head_is_read_and_written(rt: HostRuntime) -> Result<(), Fail> {
 #[test]
 fn damaged_page_heads_are_refused(rt: HostRuntime) {
     let head = &FILE[4..21];
-    assert_eq!(rt; read_page_head(&head[..16], 0), Err(FileFault::Thrift { at: 16 }));
+    assert_eq!(rt;
+        read_page_head(&head[..16], 0),
+        Err(FileFault::Thrift { at: 16 })
+    );
     assert_eq!(rt; read_page_head(head, 17), Err(FileFault::Thrift { at: 17 }));
     assert_eq!(rt; read_page_head(head, 18), Err(FileFault::Thrift { at: 17 }));
     // a size of -1, and a number of values of -1
@@ -93,10 +98,16 @@ fn footer_is_read_and_written(rt: HostRuntime) -> Result<(), Fail> {
 fn damaged_footers_are_refused(rt: HostRuntime) {
     let alloc = rt.alloc();
     for size in 0..12 {
-        assert_eq!(rt; read_footer(alloc, &FILE[..size]).err(), Some(FileFault::Short));
+        assert_eq!(rt;
+            read_footer(alloc, &FILE[..size]).err(),
+            Some(FileFault::Short)
+        );
     }
     for size in 12..99 {
-        assert_eq!(rt; read_footer(alloc, &FILE[..size]).err(), Some(FileFault::Magic));
+        assert_eq!(rt;
+            read_footer(alloc, &FILE[..size]).err(),
+            Some(FileFault::Magic)
+        );
     }
     assert_eq!(rt; changed(alloc, 0, 0x51).err(), Some(FileFault::Magic));
     // a length of 255, and one of 88, which is one more than the file has room for
@@ -104,10 +115,25 @@ fn damaged_footers_are_refused(rt: HostRuntime) {
     assert_eq!(rt; changed(alloc, 91, 88).err(), Some(FileFault::Footer));
     // a number of rows that is a 32-bit number, no number of rows, a name that isn't UTF-8, and a list of texts in place
     // of one of structs
-    assert_eq!(rt; changed(alloc, 53, 0x15).err(), Some(FileFault::Thrift { at: 53 }));
-    assert_eq!(rt; changed(alloc, 53, 0x96).err(), Some(FileFault::Thrift { at: 90 }));
-    assert_eq!(rt; changed(alloc, 50, 0xff).err(), Some(FileFault::Thrift { at: 48 }));
-    assert_eq!(rt; changed(alloc, 32, 0x28).err(), Some(FileFault::Thrift { at: 31 }));
+    assert_eq!(rt;
+        changed(alloc, 53, 0x15).err(),
+        Some(FileFault::Thrift { at: 53 })
+    );
+    assert_eq!(rt;
+        changed(alloc, 53, 0x96).err(),
+        Some(FileFault::Thrift { at: 90 })
+    );
+    assert_eq!(rt;
+        changed(alloc, 50, 0xff).err(),
+        Some(FileFault::Thrift { at: 48 })
+    );
+    assert_eq!(rt;
+        changed(alloc, 32, 0x28).err(),
+        Some(FileFault::Thrift { at: 31 })
+    );
     // a footer that ends too soon
-    assert_eq!(rt; changed(alloc, 91, 0).err(), Some(FileFault::Thrift { at: 91 }));
+    assert_eq!(rt;
+        changed(alloc, 91, 0).err(),
+        Some(FileFault::Thrift { at: 91 })
+    );
 }

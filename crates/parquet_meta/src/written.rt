@@ -11,9 +11,14 @@ use crate::meta::{ColumnChunk, ColumnMetaData, FileMeta, RowGroup, SchemaElement
 use row_base::Text;
 use thrift_compact::{Appender, NoMemory, Wire};
 
-/// Writes a number behind a field of the id `last`, and gives the id of the field that is the last one now.
-#[tactic(auto, unfolding(crate::specs::Written::fields_text))]
-fn put_number(out: &mut Appender, last: i16, id: i16, wire: Wire, number: i64) -> Result<i16, NoMemory>
+/// Appends a field that is a number, behind one of the id `last`, and gives the id of the field that is the last one now.
+fn put_number(
+    out: &mut Appender,
+    last: i16,
+    id: i16,
+    wire: Wire,
+    number: i64,
+) -> Result<i16, NoMemory>
     ensures { IfOk result (λ now. spec.Writes out.old last out.new now (spec.always id wire (number_bytes number))) }
 {
     out.field(last, id, wire)?;
@@ -22,7 +27,7 @@ fn put_number(out: &mut Appender, last: i16, id: i16, wire: Wire, number: i64) -
 }
 
 /// The same for a number that may be absent.
-#[tactic(auto, unfolding(crate::specs::Written::fields_text))]
+#[tactic(auto, using(crate::proofs::Puts::put_none))]
 fn put_optional(
     out: &mut Appender,
     last: i16,
@@ -38,8 +43,7 @@ fn put_optional(
     }
 }
 
-/// The same for a text.
-#[tactic(auto, unfolding(crate::specs::Written::fields_text))]
+/// The same for a field that is a text.
 fn put_text(out: &mut Appender, last: i16, id: i16, text: &Text) -> Result<i16, NoMemory>
     ensures { IfOk result (λ now. spec.Writes out.old last out.new now (spec.always id wires.Binary (binary_bytes text.now))) }
 {
@@ -48,7 +52,7 @@ fn put_text(out: &mut Appender, last: i16, id: i16, text: &Text) -> Result<i16, 
     Ok(id)
 }
 
-/// The elements of a list, one behind another.
+/// Appends the elements of a list, one behind another.
 #[tactic(auto, unfolding(crate::specs::Written::texts_of))]
 fn write_elements<E: Element>(out: &mut Appender, elements: &[E]) -> Result<(), NoMemory>
     ensures { OnOk result (out.new ≡ out.old ++ spec.texts_of E.text elements.now) }
@@ -59,7 +63,7 @@ fn write_elements<E: Element>(out: &mut Appender, elements: &[E]) -> Result<(), 
     Ok(())
 }
 
-/// A list.
+/// Appends a list. One of 2^32 elements or more has no text.
 fn write_list<E: Element>(out: &mut Appender, elements: &[E]) -> Result<(), NoMemory>
     ensures { OnOk result (out.new ≡ out.old ++ spec.list_text E.kind E.text elements.now) }
 {
@@ -72,9 +76,13 @@ fn write_list<E: Element>(out: &mut Appender, elements: &[E]) -> Result<(), NoMe
     }
 }
 
-/// The same for a list.
-#[tactic(auto, unfolding(crate::specs::Written::fields_text))]
-fn put_list<E: Element>(out: &mut Appender, last: i16, id: i16, elements: &[E]) -> Result<i16, NoMemory>
+/// The same for a field that is a list.
+fn put_list<E: Element>(
+    out: &mut Appender,
+    last: i16,
+    id: i16,
+    elements: &[E],
+) -> Result<i16, NoMemory>
     ensures { IfOk result (λ now. spec.Writes out.old last out.new now (spec.always id wires.List (spec.list_text E.kind E.text elements.now))) }
 {
     out.field(last, id, Wire::List)?;
@@ -112,8 +120,8 @@ pub(crate) fn write_group(out: &mut Appender, group: &RowGroup) -> Result<(), No
     out.stop()
 }
 
-/// The path of another file, where there is one.
-#[tactic(auto, unfolding(crate::specs::Written::fields_text))]
+/// The same for the path of another file, which may be absent and is the first field.
+#[tactic(auto, using(crate::proofs::Puts::put_none))]
 fn put_path(out: &mut Appender, path: &Option<Text>) -> Result<i16, NoMemory>
     ensures { IfOk result (λ now. spec.Writes out.old (pos 0) out.new now (spec.if_some (pos 1) wires.Binary binary_bytes path.now)) }
 {
@@ -133,8 +141,8 @@ pub(crate) fn write_chunk(out: &mut Appender, chunk: &ColumnChunk) -> Result<(),
     out.stop()
 }
 
-/// The encodings of a chunk, where they are there.
-#[tactic(auto, unfolding(crate::specs::Written::fields_text))]
+/// The same for the encodings of a chunk, which may be absent.
+#[tactic(auto, using(crate::proofs::Puts::put_none))]
 fn put_encodings(
     out: &mut Appender,
     last: i16,
@@ -168,8 +176,20 @@ fn write_data(out: &mut Appender, head: &DataPageHead) -> Result<(), NoMemory>
 {
     let last = put_number(out, 0, 1, Wire::I32, i64::from(head.num_values))?;
     let last = put_number(out, last, 2, Wire::I32, i64::from(head.encoding))?;
-    let last = put_number(out, last, 3, Wire::I32, i64::from(head.definition_level_encoding))?;
-    put_number(out, last, 4, Wire::I32, i64::from(head.repetition_level_encoding))?;
+    let last = put_number(
+        out,
+        last,
+        3,
+        Wire::I32,
+        i64::from(head.definition_level_encoding),
+    )?;
+    put_number(
+        out,
+        last,
+        4,
+        Wire::I32,
+        i64::from(head.repetition_level_encoding),
+    )?;
     out.stop()
 }
 
@@ -181,7 +201,7 @@ fn write_dictionary(out: &mut Appender, head: &DictionaryPageHead) -> Result<(),
     out.stop()
 }
 
-#[tactic(auto, unfolding(crate::specs::Written::fields_text))]
+#[tactic(auto, using(crate::proofs::Puts::put_none))]
 fn put_size(out: &mut Appender, last: i16, size: Option<i32>) -> Result<i16, NoMemory>
     ensures { IfOk result (λ now. spec.Writes out.old last out.new now (spec.if_some (pos 2) wires.I32 number_bytes size)) }
 {
@@ -191,7 +211,7 @@ fn put_size(out: &mut Appender, last: i16, size: Option<i32>) -> Result<i16, NoM
     }
 }
 
-#[tactic(auto, unfolding(crate::specs::Written::fields_text))]
+#[tactic(auto, using(crate::proofs::Puts::put_none))]
 fn put_data(out: &mut Appender, last: i16, head: &Option<DataPageHead>) -> Result<i16, NoMemory>
     ensures { IfOk result (λ now. spec.Writes out.old last out.new now (spec.if_some (pos 5) wires.Struct spec.data_text head.now)) }
 {
@@ -205,7 +225,7 @@ fn put_data(out: &mut Appender, last: i16, head: &Option<DataPageHead>) -> Resul
     }
 }
 
-#[tactic(auto, unfolding(crate::specs::Written::fields_text))]
+#[tactic(auto, using(crate::proofs::Puts::put_none))]
 fn put_dictionary(
     out: &mut Appender,
     last: i16,
@@ -223,8 +243,7 @@ fn put_dictionary(
     }
 }
 
-/// The header of a data page of the second version, without fields.
-#[tactic(auto, unfolding(crate::specs::Written::fields_text))]
+/// The same for the header of a data page of the second version, which is written without fields.
 fn put_v2(out: &mut Appender, last: i16, data_page_v2: bool) -> Result<i16, NoMemory>
     ensures { IfOk result (λ now. spec.Writes out.old last out.new now (spec.v2_text data_page_v2)) }
 {
@@ -241,7 +260,13 @@ pub(crate) fn write_head(out: &mut Appender, head: &PageHead) -> Result<(), NoMe
 {
     let last = put_number(out, 0, 1, Wire::I32, i64::from(head.page_type))?;
     let last = put_size(out, last, head.uncompressed_page_size)?;
-    let last = put_number(out, last, 3, Wire::I32, i64::from(head.compressed_page_size))?;
+    let last = put_number(
+        out,
+        last,
+        3,
+        Wire::I32,
+        i64::from(head.compressed_page_size),
+    )?;
     let last = put_data(out, last, &head.data_page)?;
     let last = put_dictionary(out, last, &head.dictionary_page)?;
     put_v2(out, last, head.data_page_v2)?;

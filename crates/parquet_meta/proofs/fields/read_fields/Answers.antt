@@ -1,4 +1,4 @@
-use Rattle.std.proofs.Common.{◌≡◌, ◌+◌, ◌-◌, suc, length, refl, ap, Ok, ◌∙◌, arith, rules}
+use Rattle.std.proofs.Common.{◌-◌, suc, length, refl, ap, Ok, ◌∙◌, arith, rules}
 use Rattle.std.proofs.lemmas.Result.{err_from_is_err_and}
 use Rattle.std.specs.Int.{w16}
 use mir.Val.{SFits, to_z}
@@ -44,9 +44,9 @@ loop-known-preserved g c =
         rest.0 - 1,
         omega (arith, rest.1, c.in_ok-field.ensures.advances, moves.3, put.2, put.3, ap (λ (p : Piece). length p.bytes) c.loop-known.invariant.same, ap (λ (p : Piece). length p.bytes) moves.1),
         rw (to_z-of_z w16 c.in-Next.id fits)
-        (put_next g.F.Fields.step c.args.reader.now.piece c.loop-known.reader.piece c.field.new.self.piece rest.0 (to_z w16 c.loop-known.last-bits) c.in-Next.id c.in-Next.wire c.loop-known.known c.put.new.self
-        c.loop-known.reader.at c.place-place.result c.field.new.self.at c.put.new.reader.at (fields_of g.F.Fields.step c.args.none c.args.reader.now.piece c.args.reader.now.at)
-        c.loop-known.invariant.same moves.1 (omega (arith, rest.1)) rest.2 (moves.0 ∙ ap (λ f. Ok (f, c.field.new.self.at)) c.in-Next.is)
-        c.place-place.ensures put.0),
+            (put_next g.F.Fields.step c.args.reader.now.piece c.loop-known.reader.piece c.field.new.self.piece rest.0 (to_z w16 c.loop-known.last-bits) c.in-Next.id c.in-Next.wire c.loop-known.known c.put.new.self
+            c.loop-known.reader.at c.place-place.result c.field.new.self.at c.put.new.reader.at (fields_of g.F.Fields.step c.args.none c.args.reader.now.piece c.args.reader.now.at)
+            c.loop-known.invariant.same moves.1 (omega (arith, rest.1)) rest.2 (moves.0 ∙ ap (λ f. Ok (f, c.field.new.self.at)) c.in-Next.is)
+            c.place-place.ensures put.0),
       );
     }

@@ -1,12 +1,10 @@
 use Rattle.std.specs.Prelude.{ℤ}
-use Rattle.std.proofs.Common.{◌++◌, ◌∙◌, ap, refl, rules}
+use Rattle.std.proofs.Common.{◌++◌, ◌∙◌, ap, rules}
 use Rattle.std.specs.Int.{w16, w64}
 use mir.Val.{SFits, to_z, of_z}
 use Rattle.std.proofs.lemmas.Int.{to_z-of_z}
-use Rattle.thrift_compact.specs.declared.wire.Wire.TheVariants as wires
-use Rattle.thrift_compact.specs.Writing.{number_bytes, binary_bytes}
-use Rattle.parquet_meta.specs.Written.{list_text, data_text, dictionary_text}
-use Rattle.parquet_meta.proofs.Puts.{put_some, put_none}
+use Rattle.thrift_compact.specs.Writing.{number_bytes}
+use Rattle.parquet_meta.proofs.Puts.{put_some}
 use Rattle.parquet_meta.proofs.written.put_number.Goals as goal
 
 pub returns : goal.returns

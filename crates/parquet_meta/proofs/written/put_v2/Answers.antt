@@ -1,12 +1,10 @@
 use Rattle.std.proofs.Common.{◌∷◌, []}
 use Rattle.std.specs.Prelude.{pos}
-use Rattle.std.proofs.Common.{refl, rules}
+use Rattle.std.proofs.Common.{refl}
 use Rattle.std.specs.Int.{w16}
-use mir.Val.{SFits, to_z, of_z}
+use mir.Val.{to_z, of_z}
 use Rattle.std.proofs.lemmas.Int.{to_z-of_z}
 use Rattle.thrift_compact.specs.declared.wire.Wire.TheVariants as wires
-use Rattle.thrift_compact.specs.Writing.{number_bytes, binary_bytes}
-use Rattle.parquet_meta.specs.Written.{list_text, data_text, dictionary_text}
 use Rattle.parquet_meta.proofs.Puts.{put_some, put_none}
 use Rattle.parquet_meta.proofs.written.put_v2.Goals as goal
 

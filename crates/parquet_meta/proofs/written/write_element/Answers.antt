@@ -1,11 +1,8 @@
-use Rattle.std.proofs.Common.{ap, refl, rules}
-use Rattle.std.specs.Prelude.{ℤ}
-use Rattle.std.specs.Int.{w16, w64}
-use mir.Val.{SFits, to_z, of_z}
+use Rattle.std.proofs.Common.{refl, rules}
+use Rattle.std.specs.Int.{w16}
+use mir.Val.{SFits}
 use Rattle.std.proofs.lemmas.Int.{to_z-of_z}
-use Rattle.thrift_compact.specs.declared.wire.Wire.TheVariants as wires
-use Rattle.thrift_compact.specs.Writing.{number_bytes, binary_bytes}
-use Rattle.parquet_meta.specs.Written.{always, list_text, chunk_text, group_text, element_text, column_text, footer_text, data_text, dictionary_text, head_text}
+use Rattle.parquet_meta.specs.Written.{element_text}
 use Rattle.parquet_meta.proofs.Puts.{before, stopped, when_ok}
 use Rattle.parquet_meta.proofs.written.write_element.Goals as goal
 
@@ -17,10 +14,10 @@ returns c =
     let l1 : SFits w16 c.in_ok-last-2.last = search rules in
     let l0 : SFits w16 c.in_ok-last.last = search rules in
     when_ok c.stop.result (λ e.
-      before _ _ _ _ _ _ _ _ _ c.in_ok-last.ensures refl (to_z-of_z w16 c.in_ok-last.last l0)
-      (before _ _ _ _ _ _ _ _ _ c.in_ok-last-2.ensures refl (to_z-of_z w16 c.in_ok-last-2.last l1)
-      (before _ _ _ _ _ _ _ _ _ c.in_ok-last-3.ensures refl (to_z-of_z w16 c.in_ok-last-3.last l2)
-      (before _ _ _ _ _ _ _ _ _ c.in_ok-last-4.ensures refl (to_z-of_z w16 c.in_ok-last-4.last l3)
-      (before _ _ _ _ _ _ _ _ _ c.in_ok-put_optional.ensures refl refl
-      (stopped _ _ _ e))))))
+    before _ _ _ _ _ _ _ _ _ c.in_ok-last.ensures refl (to_z-of_z w16 c.in_ok-last.last l0)
+    (before _ _ _ _ _ _ _ _ _ c.in_ok-last-2.ensures refl (to_z-of_z w16 c.in_ok-last-2.last l1)
+    (before _ _ _ _ _ _ _ _ _ c.in_ok-last-3.ensures refl (to_z-of_z w16 c.in_ok-last-3.last l2)
+    (before _ _ _ _ _ _ _ _ _ c.in_ok-last-4.ensures refl (to_z-of_z w16 c.in_ok-last-4.last l3)
+    (before _ _ _ _ _ _ _ _ _ c.in_ok-put_optional.ensures refl refl
+    (stopped _ _ _ e))))))
     c.stop.ensures.ok

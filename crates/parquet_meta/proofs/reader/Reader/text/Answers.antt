@@ -6,7 +6,7 @@ pub returns-in_ok-make-in-Ok : goal.returns-in_ok-make-in-Ok
 returns-in_ok-make-in-Ok c =
     let came = c.in_ok-bytes.ensures in (
       text_good c.args.self.now.piece c.args.place c.args.self.now.at c.in_ok-bytes.bytes.now c.in_ok-make-in-Ok.field-0 c.binary.new.self.at came.0 c.in-Ok.ensures.cases.1
-      (c.in_ok-make-in-Ok.ensures ∙ c.in-Ok.ensures.cases.0),
+          (c.in_ok-make-in-Ok.ensures ∙ c.in-Ok.ensures.cases.0),
       came.1,
       came.2,
       came.3,
