@@ -1,5 +1,5 @@
 -- Levels and bits are 0 or 1, and there are no more of them than values.
-use Rattle.std.proofs.Common.{◌≡◌, ℕ, zero, suc, ◌+◌, ◌*◌, ◌/◌, ◌%◌, ◌^◌, ◌<◌, ◌≤◌, Bool, true, false, cond, List, [], ◌∷◌, length, get_or, refl, sym, ap, subst, ◌∙◌, arith}
+use Rattle.std.proofs.Common.{◌≡◌, ℕ, zero, suc, ◌<◌, ◌≤◌, Bool, true, false, cond, List, [], ◌∷◌, length, get_or, refl, ap, arith}
 use Rattle.row_base.specs.declared.row.Datum.{Datum}
 use Rattle.row_base.specs.declared.row.Datum.TheVariants as datum
 use Rattle.parquet_pages.specs.Places.{is_null}

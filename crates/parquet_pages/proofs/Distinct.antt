@@ -1,9 +1,7 @@
 -- Places of values among distinct ones.
-use Rattle.std.proofs.Common.{◌≡◌, ℕ, zero, suc, ◌+◌, ◌*◌, ◌^◌, ◌<◌, ◌≤◌, Bool, true, false, ◌||◌, not, drop, cond, leb, List, [], ◌∷◌, ◌++◌, length, get_or, refl, sym, ap, subst, ◌∙◌, arith, inl, inr, Option, Some, None, option_map, is_some, unwrap_or}
-use Rattle.std.proofs.lemmas.Bool.{cases_Bool, le-leb, lt-leb, leb-true, or_from, false_from_ne_true, not-true}
+use Rattle.std.proofs.Common.{◌≡◌, ℕ, zero, suc, ◌+◌, ◌<◌, ◌≤◌, Bool, true, false, ◌||◌, not, drop, cond, leb, List, [], ◌∷◌, ◌++◌, length, get_or, refl, sym, ap, subst, ◌∙◌, arith, inl, inr, Option, Some, None, option_map, is_some, unwrap_or}
+use Rattle.std.proofs.lemmas.Bool.{cases_Bool, lt-leb, not-true}
 use Rattle.std.proofs.lemmas.List.{length-append, at_drop_more, drop_all, append-nil}
-use Rattle.std.specs.declared.cmp.Ordering.{Ordering}
-use Rattle.std.specs.declared.cmp.Ordering.TheVariants.{Less, Equal, Greater}
 use Rattle.std.specs.Cmp.{Equal-is}
 use Rattle.std.specs.List.{All}
 use Rattle.std.specs.Ordering.{is_eq}
@@ -12,7 +10,7 @@ use Rattle.row_base.specs.declared.row.Datum.{Datum}
 use Rattle.row_base.specs.RowOrder.{datum_cmp}
 use Rattle.row_base.proofs.RowOrder.{datum_apart}
 use Rattle.parquet_pages.proofs.Chains.{map_some}
-use Rattle.parquet_pages.specs.Places.{is_null, present, place_of, place_in, IsIndexed, with_value, distinct_after, places_of, can_place}
+use Rattle.parquet_pages.specs.Places.{is_null, place_of, place_in, IsIndexed, with_value, distinct_after, places_of, can_place}
 
 -- equal by the order is equal
 pub same_datum : (v q : Datum) → is_eq (datum_cmp v q) ≡ true → v ≡ q

@@ -1,7 +1,7 @@
 -- The header of a piece is read where it stands.
-use Rattle.std.proofs.Common.{◌≡◌, ◌⊎◌, ℕ, zero, suc, ◌+◌, ◌-◌, ◌*◌, ◌%◌, ◌<◌, ◌≤◌, Bool, true, false, cond, ltb, List, [], ◌∷◌, length, take, get_or, refl, sym, ap, subst, ◌∙◌, arith, add-one, inl, inr, Option, Some, None, option_map}
+use Rattle.std.proofs.Common.{◌≡◌, ℕ, zero, suc, ◌+◌, ◌-◌, ◌*◌, ◌%◌, ◌<◌, ◌≤◌, List, [], ◌∷◌, length, take, get_or, refl, sym, ap, subst, ◌∙◌, arith, add-one, inl, inr, Some}
 use Rattle.std.proofs.lemmas.Bool.{cases_lt, lt-ltb, le-ltb}
-use Rattle.bit_pack.specs.Hybrid.{varint_number, IsHeader}
+use Rattle.bit_pack.specs.Hybrid.{varint_number}
 use Rattle.parquet_pages.specs.Hybrids.{header_in}
 use Rattle.parquet_pages.proofs.Chains.{map_some, inside, pair_of}
 

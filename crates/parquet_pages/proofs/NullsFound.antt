@@ -1,10 +1,8 @@
 -- Whether a page has a null is told by its levels alone.
-use Rattle.std.proofs.Common.{◌≡◌, ℕ, zero, suc, ◌+◌, ◌<◌, ◌≤◌, ℤ, pos, Bool, true, false, ◌||◌, cond, eqb, List, [], ◌∷◌, length, map, refl, sym, ap, subst, ◌∙◌, arith, inl, inr, Option, Some, None, option_map, Ok, IfSome}
+use Rattle.std.proofs.Common.{◌≡◌, ℕ, zero, suc, ◌+◌, ℤ, pos, Bool, true, false, eqb, List, [], ◌∷◌, length, map, refl, sym, ap, subst, ◌∙◌, arith, inl, inr, Option, Some, option_map, Ok, IfSome}
 use Rattle.std.specs.List.{list_any, slice_get}
-use Rattle.std.proofs.lemmas.Bool.{cases_Bool, or_parts, or_from, or_left}
-use Rattle.bit_pack.specs.Hybrid as hybrid
+use Rattle.std.proofs.lemmas.Bool.{cases_Bool, or_parts, or_from}
 use Rattle.row_base.specs.declared.row.Datum.{Datum}
-use Rattle.row_base.specs.declared.row.Datum.TheVariants as datum
 use Rattle.row_base.specs.declared.row.Kind.{Kind}
 use Rattle.row_base.specs.declared.row.Kind.TheVariants as kind
 use Rattle.parquet_meta.specs.declared.head.DataPageHead.{DataPageHead}
@@ -15,7 +13,7 @@ use Rattle.parquet_pages.specs.Plain.{boolean_of}
 use Rattle.parquet_pages.specs.Levels.{levels_in, there, has_null, spread}
 use Rattle.parquet_pages.specs.Places.{is_null, values_at}
 use Rattle.parquet_pages.specs.Pages.{body_of, body_has_null, data_head, page_values, page_has_null}
-use Rattle.parquet_pages.specs.Grammar.{PlainValue, long, integer, date, string, InLine, done, next, InBits, PlainValues, Levels, Indexed, Present, plain, indexed, Body, required, optional, DataPage}
+use Rattle.parquet_pages.specs.Grammar.{PlainValue, long, integer, date, string, InLine, done, next, PlainValues, Present, plain, indexed, Body, required, optional}
 use Rattle.parquet_pages.proofs.Chains.{bind_some, map_some, map_at, inside}
 use Rattle.parquet_pages.proofs.Pieces.{all_read}
 use Rattle.parquet_pages.proofs.PagesRead.{Named, number_same, head_found, frame_found, levels_found, page_only, bind_from, page_from, body_named}
@@ -109,7 +107,7 @@ null_found k o page file d vs e none =
     let p = page_only k o page file d vs e in
     let named : Named o p.head = (body_named p.body, λ (t : o ≡ true). number_same p.head.definition_level_encoding (pos 3) (p.levels t)) in
     bind_from (data_head o page) (λ (h : DataPageHead). or_page page.body (body_of page h.num_values file) >>= λ (b : ℕ × List ℕ). or_page page.body (body_has_null o b.0 b.1))
-      p.head (head_found o page p.head p.is_data p.has_head named)
+    p.head (head_found o page p.head p.is_data p.has_head named)
     ∙ bind_from (or_page page.body (body_of page p.head.num_values file)) (λ (b : ℕ × List ℕ). or_page page.body (body_has_null o b.0 b.1))
-      (p.count, p.bytes) (page_from page.body (body_of page p.head.num_values file) (p.count, p.bytes) (frame_found page p.head.num_values file p.count p.bytes p.framed))
+    (p.count, p.bytes) (page_from page.body (body_of page p.head.num_values file) (p.count, p.bytes) (frame_found page p.head.num_values file p.count p.bytes p.framed))
     ∙ page_from page.body (body_has_null o p.count p.bytes) (list_any is_null vs) (body_null none p.body)

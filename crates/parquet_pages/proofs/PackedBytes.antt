@@ -1,7 +1,7 @@
 -- Packed values determine their bytes.
-use Rattle.std.proofs.Common.{◌≡◌, ℕ, zero, suc, ◌+◌, ◌*◌, ◌/◌, ◌%◌, ◌^◌, ◌<◌, ◌≤◌, List, [], ◌∷◌, length, drop, get_or, refl, sym, ap, subst, ◌∙◌, arith}
-use Rattle.std.proofs.lemmas.Nat.{shr-shr, pow-add, pow_pos}
-use Rattle.bit_pack.specs.Bits.{Packs, value_at, bit_list, number_of}
+use Rattle.std.proofs.Common.{◌≡◌, ℕ, suc, ◌+◌, ◌*◌, ◌/◌, ◌%◌, ◌^◌, ◌<◌, List, [], ◌∷◌, length, get_or, refl, sym, ap, ◌∙◌, arith}
+use Rattle.std.proofs.lemmas.Nat.{shr-shr, pow_pos}
+use Rattle.bit_pack.specs.Bits.{Packs}
 use Rattle.bit_pack.specs.Numbers.{number_in, packed_number, bytes_of}
 use Rattle.bit_pack.proofs.Wholes.{IsBytes, value_at_is, number_of-rest}
 use Rattle.parquet_pages.specs.Written.{bits_text}

@@ -1,7 +1,7 @@
 -- Pages are read where they stand, and only there.
-use Rattle.std.proofs.Common.{◌≡◌, ◌⊎◌, ℕ, zero, suc, ◌+◌, ◌*◌, ◌<◌, ◌≤◌, ℤ, pos, negsuc, Bool, true, false, not, ◌&&◌, ◌||◌, cond, leb, List, [], ◌∷◌, ◌++◌, length, take, drop, refl, sym, ap, subst, ◌∙◌, arith, inl, inr, Option, Some, None, option_map, option_and_then, Result, Ok, Err}
+use Rattle.std.proofs.Common.{◌≡◌, ◌⊎◌, ℕ, ◌+◌, ◌≤◌, ℤ, pos, negsuc, Bool, true, false, not, ◌&&◌, ◌||◌, cond, leb, List, [], ◌∷◌, length, take, drop, refl, sym, ap, subst, ◌∙◌, inl, inr, Option, Some, None, option_map, Result, Ok, Err}
 use Rattle.std.specs.Ordering.{int_eq}
-use Rattle.std.proofs.lemmas.Bool.{cases_Bool, le-leb, leb-true, and_parts, and_from, or_cases, or_left, or_right, not-false, not-true}
+use Rattle.std.proofs.lemmas.Bool.{cases_Bool, le-leb, leb-true, or_cases, or_left, or_right, not-false}
 use Rattle.std.proofs.lemmas.Bool.Decides.{Decides-int_eq}
 use Rattle.bit_pack.specs.Bits.{most_values}
 use Rattle.row_base.specs.declared.row.Datum.{Datum}
@@ -18,7 +18,7 @@ use Rattle.parquet_pages.specs.Plain.{block_in, plain_values}
 use Rattle.parquet_pages.specs.Levels.{levels_in, there, spread}
 use Rattle.parquet_pages.specs.Places.{values_at, indexed_values}
 use Rattle.parquet_pages.specs.Pages.{is_plain, is_dictionary, is_hybrid, count_of, bytes_at, body_of, checked_head, data_head, checked_dictionary, dictionary_head, present_values, body_values, page_values, dictionary_values}
-use Rattle.parquet_pages.specs.Grammar.{Block, PlainValues, Levels, Indexed, Present, plain, indexed, Body, required, optional, Framed, DataPage, DictionaryPage}
+use Rattle.parquet_pages.specs.Grammar.{Levels, Indexed, Present, plain, indexed, Body, required, optional, Framed, DataPage, DictionaryPage}
 use Rattle.parquet_pages.proofs.Chains.{bind_some, map_some, bind_at, map_at, test_some, inside, pair_of}
 use Rattle.parquet_pages.proofs.Pieces.{hybrid_found, hybrid_only}
 use Rattle.parquet_pages.proofs.PlainRead.{block_found, block_only, plain_found, plain_only}

@@ -1,13 +1,13 @@
 -- The hybrid is read as it is spelled, and only where it is spelled.
-use Rattle.std.proofs.Common.{◌≡◌, ◌⊎◌, ℕ, zero, suc, ◌+◌, ◌-◌, ◌*◌, ◌/◌, ◌%◌, ◌^◌, ◌<◌, ◌≤◌, Bool, true, false, ◌&&◌, cond, ltb, leb, eqb, List, [], ◌∷◌, ◌++◌, length, take, drop, replicate, get_or, refl, sym, ap, subst, ◌∙◌, arith, inl, inr, Option, Some, None, option_map, option_and_then}
-use Rattle.std.proofs.lemmas.Bool.{cases_lt, cases_Bool, lt-ltb, le-leb, lt-leb, leb-true, ltb-true, eq-eqb, ne_eqb, eqb-true, eqb-false, and_parts, and_from}
-use Rattle.std.proofs.lemmas.List.{length-append, length-take-le, length-drop, take_all, take-take, take-append-le}
-use Rattle.bit_pack.specs.Bits.{value_at, Packed, Unpacks, most_values}
+use Rattle.std.proofs.Common.{◌≡◌, ◌⊎◌, ℕ, zero, suc, ◌+◌, ◌-◌, ◌*◌, ◌/◌, ◌%◌, ◌^◌, ◌<◌, ◌≤◌, true, false, ◌&&◌, cond, ltb, leb, eqb, List, [], ◌∷◌, ◌++◌, length, take, drop, replicate, get_or, refl, sym, ap, subst, ◌∙◌, arith, inl, inr, Some, None, option_map}
+use Rattle.std.proofs.lemmas.Bool.{cases_Bool, lt-ltb, le-leb, lt-leb, leb-true, ltb-true, eq-eqb, ne_eqb, eqb-true, eqb-false, and_parts}
+use Rattle.std.proofs.lemmas.List.{length-append, length-take-le, length-drop, take-take}
+use Rattle.bit_pack.specs.Bits.{value_at, Packed, most_values}
 use Rattle.bit_pack.specs.Numbers.{number_in}
 use Rattle.bit_pack.specs.Hybrid.{IsHeader, byte_width, IsRun, IsStretch, IsPiece, run, stretch, Pieces, none, more, Reads, StopsAt, HasLargeHeader, EndsEarly, HasWideValue}
-use Rattle.bit_pack.proofs.OneReading.{one_packed, one, no_stop, large_apart, short_apart, wide_apart}
+use Rattle.bit_pack.proofs.OneReading.{one_packed, no_stop, large_apart, short_apart, wide_apart}
 use Rattle.parquet_pages.specs.Hybrids.{values_from, unpacked, header_in, run_in, stretch_in, piece_in, pieces_in, hybrid_values}
-use Rattle.parquet_pages.proofs.Chains.{bind_some, map_some, bind_at, map_at, test_some, inside, at_some, pair_of}
+use Rattle.parquet_pages.proofs.Chains.{bind_some, map_some, test_some, inside, at_some, pair_of}
 use Rattle.parquet_pages.proofs.Headers.{Header, header_found, header_only}
 
 -- ---- packed values

@@ -1,12 +1,10 @@
 -- PLAIN values that are written stand there.
-use Rattle.std.proofs.Common.{◌≡◌, ℕ, zero, suc, ◌+◌, ◌*◌, ◌/◌, ◌^◌, ◌<◌, ◌≤◌, ℤ, Bool, true, false, cond, not, eqb, List, [], ◌∷◌, ◌++◌, length, map, refl, sym, ap, subst, ◌∙◌, arith, inl, inr, append_assoc}
-use Rattle.std.specs.Int.{w32, w64, to_le_bytes, from_le_bytes, cast_unsigned, cast_signed}
+use Rattle.std.proofs.Common.{◌≡◌, ℕ, ◌+◌, ◌*◌, ◌/◌, ◌^◌, ◌<◌, ℤ, Bool, true, false, cond, List, [], ◌∷◌, ◌++◌, length, map, refl, sym, ap, subst, ◌∙◌, arith, append_assoc}
+use Rattle.std.specs.Int.{w32, w64, to_le_bytes, cast_unsigned, cast_signed}
 use Rattle.std.specs.List.{All, flat_map}
 use Rattle.std.specs.Prelude.{FitsSigned}
 use Rattle.std.proofs.lemmas.Int.{ints, to_z-of_z}
 use Rattle.std.proofs.lemmas.Nat.{from_le_bytes-to_le_bytes_4, from_le_bytes-to_le_bytes_8}
-use Rattle.std.proofs.lemmas.List.{length-append}
-use Rattle.std.proofs.lemmas.Bool.{cases_Bool}
 use Rattle.bit_pack.specs.Bits.{Packs}
 use Rattle.bit_pack.specs.Numbers.{packed_number, bytes_of}
 use Rattle.bit_pack.proofs.Sums.{Packs-bytes}
@@ -19,9 +17,9 @@ use Rattle.parquet_pages.specs.Plain.{long_of, integer_of, boolean_of}
 use Rattle.parquet_pages.specs.Places.{is_null, is_boolean}
 use Rattle.parquet_pages.specs.Written.{block_text, plain_text, bits_of, bits_text, values_text, CanStand}
 use Rattle.parquet_pages.specs.ReadBack.{CanReturn}
-use Rattle.parquet_pages.specs.Grammar.{IsText, Block, PlainValue, long, integer, date, string, InLine, done, next, InBits, PlainValues}
+use Rattle.parquet_pages.specs.Grammar.{Block, PlainValue, long, integer, date, string, InLine, done, next, InBits, PlainValues}
 use Rattle.parquet_pages.proofs.Bits.{bits_fit}
-use Rattle.parquet_pages.proofs.Kept.{kept, null_is, null_cases, kept_cases, first_of, others_of}
+use Rattle.parquet_pages.proofs.Kept.{kept, null_is, first_of, others_of}
 
 -- ---- one value
 

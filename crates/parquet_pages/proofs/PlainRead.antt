@@ -1,11 +1,11 @@
 -- PLAIN values are read where they stand, and only there.
-use Rattle.std.proofs.Common.{◌≡◌, ◌⊎◌, ℕ, zero, suc, ◌+◌, ◌*◌, ◌<◌, ◌≤◌, ℤ, pos, neg_ℤ, Bool, true, false, ◌&&◌, cond, leb, List, [], ◌∷◌, ◌++◌, length, take, drop, map, refl, sym, ap, subst, ◌∙◌, arith, inl, inr, Option, Some, None, option_map, option_and_then, append_assoc}
-use Rattle.std.specs.Int.{w32, w64, from_le_bytes}
+use Rattle.std.proofs.Common.{◌≡◌, ℕ, zero, suc, ◌*◌, ◌≤◌, ℤ, pos, neg_ℤ, Bool, true, false, ◌&&◌, cond, leb, List, [], ◌∷◌, ◌++◌, length, take, drop, map, refl, sym, ap, subst, ◌∙◌, arith, Some, None, option_map, option_and_then}
+use Rattle.std.specs.Int.{w32, from_le_bytes}
 use lib.Dec.{T}
 use lib.Signed.{le_z}
 use Rattle.std.specs.Str.{is_utf8}
 use Rattle.std.proofs.lemmas.Str.{is_utf8-from_IsUtf8, IsUtf8-from_is_utf8}
-use Rattle.std.proofs.lemmas.Bool.{cases_Bool, le-leb, leb-true, and_parts, and_from}
+use Rattle.std.proofs.lemmas.Bool.{le-leb, leb-true, and_parts, and_from}
 use Rattle.std.proofs.lemmas.List.{length-append, length-take-le, take-append-drop, take_at, drop_at, length-map}
 use Rattle.bit_pack.specs.Bits.{Packed}
 use Rattle.row_base.specs.Dates.{IsDayNumber}
@@ -14,9 +14,9 @@ use Rattle.row_base.specs.declared.row.Datum.TheVariants as datum
 use Rattle.row_base.specs.declared.row.Kind.{Kind}
 use Rattle.row_base.specs.declared.row.Kind.TheVariants as kind
 use Rattle.parquet_pages.specs.Hybrids.{values_from, unpacked}
-use Rattle.parquet_pages.specs.Plain.{cut, block_in, long_of, integer_of, is_day_number, is_text, text_datum, long_in, integer_in, date_in, text_in, plain_value, values_in_line, boolean_of, booleans_in, plain_values}
+use Rattle.parquet_pages.specs.Plain.{cut, block_in, long_of, integer_of, is_day_number, is_text, text_datum, plain_value, values_in_line, boolean_of, booleans_in, plain_values}
 use Rattle.parquet_pages.specs.Grammar.{IsText, Block, PlainValue, long, integer, date, string, InLine, done, next, InBits, PlainValues}
-use Rattle.parquet_pages.proofs.Chains.{bind_some, map_some, bind_at, map_at, test_some, inside, pair_of}
+use Rattle.parquet_pages.proofs.Chains.{bind_some, map_some, bind_at, map_at, test_some, inside}
 use Rattle.parquet_pages.proofs.Pieces.{length-values_from, Packed-values_from, unpacked_found}
 
 -- ---- pieces of bytes

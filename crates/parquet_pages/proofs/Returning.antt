@@ -1,9 +1,9 @@
 -- Pages that are written are read back.
-use Rattle.std.proofs.Common.{◌≡◌, ◌⊎◌, ℕ, zero, suc, ◌+◌, ◌*◌, ◌^◌, ◌<◌, ◌≤◌, ℤ, pos, Bool, true, false, ◌||◌, cond, leb, List, [], ◌∷◌, ◌++◌, length, take, drop, refl, sym, ap, subst, ◌∙◌, arith, inl, inr, append_assoc, Option, Some, None, Ok}
+use Rattle.std.proofs.Common.{◌≡◌, ℕ, zero, suc, ◌+◌, ◌^◌, ◌<◌, ◌≤◌, ℤ, pos, Bool, true, false, cond, leb, List, ◌∷◌, ◌++◌, length, take, drop, refl, sym, ap, subst, ◌∙◌, arith, inl, inr, Option, Some, Ok}
 use Rattle.std.specs.Int.{w32, to_le_bytes}
 use Rattle.std.specs.List.{All}
 use Rattle.std.proofs.lemmas.List.{length-append, take_at, drop_at}
-use Rattle.std.proofs.lemmas.Bool.{cases_Bool, le-leb, lt-leb, leb-true, leb-false}
+use Rattle.std.proofs.lemmas.Bool.{cases_Bool, leb-true}
 use Rattle.bit_pack.specs.Bits.{most_values}
 use Rattle.bit_pack.specs.Hybrid.{Reads, hybrid_of}
 use Rattle.bit_pack.proofs.WriteLemmas.{hybrid_reads}
@@ -12,11 +12,10 @@ use Rattle.row_base.specs.declared.row.Datum.{Datum}
 use Rattle.row_base.specs.declared.row.Datum.TheVariants as datum
 use Rattle.row_base.specs.declared.row.Kind.{Kind}
 use Rattle.parquet_meta.specs.declared.head.PageAt.{PageAt}
-use Rattle.parquet_pages.specs.Levels.{there, spread}
-use Rattle.parquet_pages.specs.Places.{is_null, can_place, places_of, values_at, width_from, index_width}
+use Rattle.parquet_pages.specs.Places.{is_null, can_place, places_of, width_from, index_width}
 use Rattle.parquet_pages.specs.Pages.{page_values, dictionary_values}
 use Rattle.parquet_pages.specs.Written.{block_text, levels_of, levels_text, values_text, page_text, dictionary_text, index_text, CanStand}
-use Rattle.parquet_pages.specs.Grammar.{Block, PlainValues, Levels, Indexed, Present, plain, indexed, Body, required, optional, Framed, DataPage, DictionaryPage}
+use Rattle.parquet_pages.specs.Grammar.{PlainValues, Levels, Indexed, Present, plain, indexed, Body, required, optional, Framed}
 use Rattle.parquet_pages.specs.ReadBack.{CanReturn, StandsIn, HeadsData, HeadsDictionary}
 use Rattle.parquet_pages.proofs.Bits.{length-levels_of, levels_fit}
 use Rattle.parquet_pages.proofs.Distinct.{places_few, places_within}

@@ -1,10 +1,9 @@
 -- The width of places in a dictionary.
-use Rattle.std.proofs.Common.{◌≡◌, ℕ, suc, ◌+◌, ◌-◌, ◌*◌, ◌^◌, ◌%◌, ◌<◌, ◌≤◌, refl, sym, ap, ◌∙◌, arith, inl, inr, cond, leb}
+use Rattle.std.proofs.Common.{◌≡◌, ℕ, suc, ◌+◌, ◌-◌, ◌*◌, ◌^◌, ◌%◌, ◌<◌, ◌≤◌, refl, ap, ◌∙◌, arith, inl, inr, cond, leb}
 use Rattle.std.proofs.lemmas.Bool.{cases_lt, le-leb, lt-leb}
-use Rattle.std.proofs.lemmas.Nat.{mod_below}
 use Rattle.bit_pack.specs.Bits.{most_values}
 use Rattle.bit_pack.proofs.Sums.{two_pow_le}
-use Rattle.parquet_pages.specs.Places.{width_from, index_width}
+use Rattle.parquet_pages.specs.Places.{width_from}
 
 -- a power of two that is shifted in 64 bits
 shifted : (w : ℕ) → w ≤ 26 → (1 * 2 ^ w) % 2 ^ 64 ≡ 2 ^ w

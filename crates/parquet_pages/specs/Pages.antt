@@ -1,5 +1,5 @@
 -- A page's values as a function of the page and of the file (README.md, "Data Pages"; parquet.thrift, `PageHeader`).
-use Rattle.std.specs.Prelude.{ℕ, ◌+◌, ◌==◌, ℤ, pos, negsuc, nat_le, Bool, false, not, ◌&&◌, ◌||◌, if◌then◌else◌, List, length, take, drop, Option, Some, None, option_map, option_and_then, Result, Ok, Err}
+use Rattle.std.specs.Prelude.{ℕ, ◌+◌, ℤ, pos, negsuc, nat_le, Bool, false, not, ◌&&◌, ◌||◌, if◌then◌else◌, List, length, take, drop, Option, Some, None, option_map, option_and_then, Result, Ok, Err}
 use Rattle.std.specs.Ordering.{int_eq}
 use Rattle.bit_pack.specs.Bits.{most_values}
 use Rattle.row_base.specs.declared.row.Datum.{Datum}

@@ -1,5 +1,5 @@
 -- Values in the PLAIN encoding (Encodings.md, "Plain: (PLAIN = 0)"), as functions of bytes.
-use Rattle.std.specs.Prelude.{ℕ, zero, suc, ℤ, nat_le, ◌==◌, Bool, true, false, not, ◌&&◌, if◌then◌else◌, List, [], ◌∷◌, length, take, drop, map, pos, neg_ℤ, int_le, Option, Some, None, option_map}
+use Rattle.std.specs.Prelude.{ℕ, zero, suc, ℤ, nat_le, ◌==◌, Bool, not, ◌&&◌, if◌then◌else◌, List, [], ◌∷◌, length, take, drop, map, pos, neg_ℤ, int_le, Option, Some, None, option_map}
 use Rattle.std.specs.Int.{w32, w64, from_le_bytes, cast_signed}
 use Rattle.std.specs.Str.{is_utf8}
 use Rattle.row_base.specs.declared.row.Datum.{Datum}

@@ -1,11 +1,10 @@
 -- The bytes of pages that are written (Encodings.md, "Plain: (PLAIN = 0)", "Run Length Encoding / Bit-Packing Hybrid",
 -- "Dictionary Encoding"; README.md, "Data Pages").
-use Rattle.std.specs.Prelude.{◌≡◌, ℕ, ◌+◌, ◌/◌, ◌^◌, ◌<◌, ◌≤◌, Bool, true, false, if◌then◌else◌, List, [], ◌∷◌, ◌++◌, length, IsUtf8}
+use Rattle.std.specs.Prelude.{◌≡◌, ℕ, ◌+◌, ◌/◌, Bool, true, false, if◌then◌else◌, List, [], ◌∷◌, ◌++◌, length}
 use Rattle.std.specs.Int.{w32, w64, to_le_bytes, cast_unsigned}
 use Rattle.std.specs.List.{flat_map}
 use Rattle.bit_pack.specs.Numbers.{packed_number, bytes_of}
 use Rattle.bit_pack.specs.Hybrid.{hybrid_of}
-use Rattle.row_base.specs.Dates.{IsDayNumber}
 use Rattle.row_base.specs.Schema.{is_of_kind}
 use Rattle.row_base.specs.declared.row.Datum.{Datum}
 use Rattle.row_base.specs.declared.row.Datum.TheVariants as datum

@@ -1,12 +1,11 @@
 //! Dictionaries of chunks (Parquet format, Encodings.md, "Dictionary Encoding (PLAIN_DICTIONARY = 2 and RLE_DICTIONARY =
 //! 8)").
-ghost use Rattle.std.specs.Prelude.{◌==◌, false, ◌≡◌, ◌^◌, ◌<◌, ◌≤◌, ◌+◌, ◌++◌, ◌∷◌, [], ℕ, true, length, slice_index, EachIndex, if◌then◌else◌, not, ◌||◌, nat_le, is_some, vec_len, Some, None, Bool, IfSome, IfOk, OnOk};
+ghost use Rattle.std.specs.Prelude.{false, ◌≡◌, ◌==◌, ◌^◌, ◌<◌, ◌≤◌, ◌+◌, ◌++◌, ◌∷◌, [], true, length, slice_index, EachIndex, if◌then◌else◌, not, ◌||◌, nat_le, is_some, Some, None, Bool, IfSome, IfOk, OnOk};
 ghost use Rattle.std.specs.List.{All};
 ghost use Rattle.std.specs.Ordering.{is_eq};
 ghost use Rattle.bit_pack.specs.Bits.{most_values};
 ghost use Rattle.bit_pack.specs.Hybrid.{hybrid_of};
 ghost use Rattle.row_base.specs.RowOrder.{datum_cmp};
-ghost use Rattle.row_base.specs.Schema.{is_of_kind};
 ghost use Rattle.row_base.specs.declared.row.Datum.{Datum as ADatum};
 ghost use Rattle.parquet_pages.specs.Places as spec;
 ghost use Rattle.parquet_pages.specs.Written as written;
@@ -20,7 +19,7 @@ use std::collections::BTreeMap;
 use std::marker::Model;
 
 /// The distinct values of a chunk that aren't null, in order of first appearance. Contracts see it as the list of them.
-#[derive(Drop)]
+#[derive(Debug, Drop)]
 pub struct Dictionary {
     values: Vec<Datum>,
     places: BTreeMap<Datum, u32>,
@@ -216,6 +215,21 @@ impl Dictionary {
         Ok(found)
     }
 
+    /// How many values it has, which the head of the dictionary page names.
+    pub fn len(&self) -> usize
+        ensures len { result ≡ length self.now }
+        ensures few { result ≤ most_values }
+    {
+        self.values.len()
+    }
+
+    /// Whether it has no value, as that of a chunk of nulls.
+    pub fn is_empty(&self) -> bool
+        ensures { result ≡ (length self.now == 0) }
+    {
+        self.values.is_empty()
+    }
+
     /// The body of the dictionary page: the values in the PLAIN encoding, which the page's head names as 0 (Parquet
     /// format, Encodings.md, "Dictionary Encoding").
     pub fn page(&self, alloc: Global, kind: Kind) -> Result<Vec<u8>, NoMemory>
@@ -253,19 +267,5 @@ impl Dictionary {
         append_levels(alloc, optional, values, &mut out)?;
         append_places(alloc, self.values.len(), places.as_slice(), &mut out)?;
         Ok(out)
-    }
-
-    /// How many values it has.
-    pub fn len(&self) -> usize
-        ensures { result ≡ length self.now }
-    {
-        self.values.len()
-    }
-
-    /// Whether it has no value, as that of a column of nulls alone.
-    pub fn is_empty(&self) -> bool
-        ensures { result ≡ (length self.now == 0) }
-    {
-        self.values.is_empty()
     }
 }

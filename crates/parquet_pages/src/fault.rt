@@ -1,6 +1,5 @@
 //! Why a page's body has no reading.
 ghost use Rattle.std.specs.Prelude.{◌≡◌};
-ghost use Rattle.parquet_meta.specs.declared.fault.FileFault.TheVariants as faults;
 ghost use Rattle.parquet_pages.specs.declared.fault.BodyFault.TheVariants as body;
 ghost use Rattle.parquet_pages.specs.Gives.{fault_at};
 

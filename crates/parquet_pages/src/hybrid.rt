@@ -1,5 +1,5 @@
 //! Packed values and the hybrid, of which no fault is told apart from another.
-ghost use Rattle.std.specs.Prelude.{◌≡◌, ◌^◌, ◌<◌, ◌≤◌, ℕ, List, length, slice_index, EachIndex, Some, ◌++◌, IfOk, OnOk, MatchResult};
+ghost use Rattle.std.specs.Prelude.{◌≡◌, ◌^◌, ◌<◌, ◌≤◌, length, slice_index, EachIndex, Some, ◌++◌, IfOk, OnOk, MatchResult};
 ghost use Rattle.bit_pack.specs.Bits.{most_values, Packs};
 ghost use Rattle.parquet_pages.specs.Gives.{Fails};
 ghost use Rattle.parquet_pages.specs.Hybrids as spec;

@@ -3,7 +3,6 @@ ghost use Rattle.std.specs.Prelude.{◌≡◌, ◌≤◌, ◌++◌, length, Some
 ghost use Rattle.std.specs.List.{flat_map};
 ghost use Rattle.bit_pack.specs.Bits.{most_values};
 ghost use Rattle.parquet_pages.specs.Gives.{Fails, Gives};
-ghost use Rattle.parquet_pages.specs.Hybrids.{unpacked};
 ghost use Rattle.parquet_pages.specs.Plain as spec;
 ghost use Rattle.parquet_pages.specs.Written as written;
 
@@ -44,6 +43,7 @@ pub(crate) fn block(bytes: &[u8]) -> Option<(&[u8], &[u8])>
     cut(rest, u32::from_le_bytes(*front) as usize)
 }
 
+/// The long at the front, and what is behind it.
 fn long(bytes: &[u8]) -> Option<(Datum, &[u8])>
     ensures { option_map (λ c. (c.0, c.1.now)) result ≡ spec.long_in bytes.now }
 {
@@ -51,6 +51,7 @@ fn long(bytes: &[u8]) -> Option<(Datum, &[u8])>
     Some((Datum::Long(i64::from_le_bytes(*front)), rest))
 }
 
+/// The integer at the front, and what is behind it.
 fn integer(bytes: &[u8]) -> Option<(Datum, &[u8])>
     ensures { option_map (λ c. (c.0, c.1.now)) result ≡ spec.integer_in bytes.now }
 {
@@ -58,6 +59,7 @@ fn integer(bytes: &[u8]) -> Option<(Datum, &[u8])>
     Some((Datum::Integer(i32::from_le_bytes(*front)), rest))
 }
 
+/// The date at the front, where it is in range, and what is behind it.
 fn date(bytes: &[u8]) -> Option<(Datum, &[u8])>
     ensures { option_map (λ c. (c.0, c.1.now)) result ≡ spec.date_in bytes.now }
 {
@@ -83,6 +85,7 @@ fn text_of(alloc: Global, bytes: &[u8]) -> Result<Datum, BodyFault>
     }
 }
 
+/// The text at the front, and what is behind it.
 fn text(alloc: Global, bytes: &[u8]) -> Result<(Datum, &[u8]), BodyFault>
     ensures { MatchResult result (λ v. spec.text_in bytes.now ≡ Some (v.0, v.1.now)) (λ e. Fails e (spec.text_in bytes.now)) }
 {

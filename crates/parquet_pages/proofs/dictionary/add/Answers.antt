@@ -1,8 +1,4 @@
-use Rattle.std.proofs.Common.{◌≡◌, length, sym, ap, ◌∙◌, arith, cond, Some, subst}
-use Rattle.std.specs.Ordering.{is_eq}
-use Rattle.row_base.specs.RowOrder.{datum_cmp}
-use Rattle.row_base.specs.declared.row.Datum.{Datum}
-use Rattle.parquet_pages.specs.Places.{place_in}
+use Rattle.std.proofs.Common.{◌≡◌, length, arith}
 use Rattle.parquet_pages.proofs.Distinct.{indexed_added}
 use Rattle.parquet_pages.proofs.dictionary.add.Goals as goal
 

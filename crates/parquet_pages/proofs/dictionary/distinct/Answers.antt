@@ -1,4 +1,4 @@
-use Rattle.std.proofs.Common.{◌≡◌, length, sym, ap, ◌∙◌, arith, cond, Some, None, refl}
+use Rattle.std.proofs.Common.{◌≡◌, length, arith, refl}
 use Rattle.parquet_pages.proofs.Distinct.{too_many}
 use Rattle.parquet_pages.proofs.dictionary.distinct.Goals as goal
 

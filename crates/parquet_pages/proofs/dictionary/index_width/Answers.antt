@@ -1,4 +1,4 @@
-use Rattle.std.proofs.Common.{◌≡◌, sym, ◌∙◌, arith}
+use Rattle.std.proofs.Common.{sym, ◌∙◌, arith}
 use Rattle.parquet_pages.specs.Places.{index_width}
 use Rattle.parquet_pages.proofs.Widths.{width_more, width_narrow, width_is}
 use Rattle.parquet_pages.proofs.dictionary.index_width.Goals as goal

@@ -1,4 +1,4 @@
-use Rattle.std.proofs.Common.{◌≡◌, ◌<◌, ◌≤◌, ◌-◌, ◌^◌}
+use Rattle.std.proofs.Common.{◌≡◌, ◌≤◌, ◌-◌}
 use Rattle.parquet_pages.specs.Places.{width_from}
 use Rattle.parquet_pages.proofs.dictionary.index_width.Given as goal
 

@@ -1,5 +1,4 @@
-use Rattle.std.proofs.Common.{◌≡◌, ◌≤◌, length, sym, ap, subst, ◌∙◌, arith, List, ℕ}
-use Rattle.parquet_pages.specs.Places.{places_of}
+use Rattle.std.proofs.Common.{length, sym, ap, subst, arith}
 use Rattle.parquet_pages.proofs.Distinct.{places_few, places_within, all_found, AllBelow}
 use Rattle.parquet_pages.proofs.dictionary.places_of.Goals as goal
 

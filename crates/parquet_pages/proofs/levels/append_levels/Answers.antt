@@ -1,4 +1,4 @@
-use Rattle.std.proofs.Common.{ap, sym, ◌∙◌, arith, subst, length, ◌≡◌, List, ℕ}
+use Rattle.std.proofs.Common.{ap, sym, ◌∙◌, arith, subst, length, ◌≡◌}
 use Rattle.parquet_pages.specs.Written.{levels_of}
 use Rattle.parquet_pages.proofs.Bits.{AllBits, length-levels_of, levels_fit}
 use Rattle.parquet_pages.proofs.levels.append_levels.Goals as goal

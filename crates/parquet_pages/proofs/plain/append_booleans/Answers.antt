@@ -1,4 +1,4 @@
-use Rattle.std.proofs.Common.{ap, sym, ◌∙◌, arith, subst, length, ◌≡◌, List, ℕ}
+use Rattle.std.proofs.Common.{ap, sym, ◌∙◌, arith, subst, length, ◌≡◌}
 use Rattle.parquet_pages.specs.Written.{bits_of}
 use Rattle.parquet_pages.proofs.Bits.{AllBits, bits_few, bits_fit}
 use Rattle.parquet_pages.proofs.plain.append_booleans.Goals as goal

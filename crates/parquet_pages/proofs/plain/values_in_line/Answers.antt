@@ -1,4 +1,4 @@
-use Rattle.std.proofs.Common.{refl, arith}
+use Rattle.std.proofs.Common.{arith}
 use Rattle.std.proofs.lemmas.Result.{err_from_is_err_and}
 use Rattle.parquet_pages.proofs.InLine.{value_more, value_fails, value_end}
 use Rattle.parquet_pages.proofs.plain.values_in_line.Goals as goal
