@@ -22,33 +22,27 @@ unfolding parts_of parts_in
 parts_none size [] e = refl
 parts_none size (x ∷ xs) e = absurd (omega arith)
 
-parts_more : {A : Type 0} (size : ℕ) (xs : List A) → 0 < size → 0 < length xs → parts_of size xs ≡ take size xs ∷ parts_of size (drop size xs)
+-- the first part, and the parts of what is behind it
+pub parts_more : {A : Type 0} (size : ℕ) (xs : List A) → 0 < size → 0 < length xs → parts_of size xs ≡ take size xs ∷ parts_of size (drop size xs)
 unfolding parts_of parts_in
 parts_more size [] some e = absurd (omega arith)
 parts_more size (x ∷ xs) some e =
     ap (λ r. take size (x ∷ xs) ∷ r)
     (parts_bound size (length xs) (length (drop size (x ∷ xs))) (drop size (x ∷ xs)) some (omega (arith, length-drop size (x ∷ xs))) (omega arith))
 
-take_min : {A : Type 0} (size : ℕ) (xs : List A) → take (min (length xs) size) xs ≡ take size xs
+pub take_min : {A : Type 0} (size : ℕ) (xs : List A) → take (min (length xs) size) xs ≡ take size xs
 take_min zero xs = let e : min (length xs) 0 ≡ 0 = omega arith in ap (λ n. take n xs) e
 take_min (suc size) [] = let e : min 0 (suc size) ≡ 0 = omega arith in ap (λ n. take n []) e
 take_min (suc size) (x ∷ xs) =
     let e : min (suc (length xs)) (suc size) ≡ suc (min (length xs) size) = omega arith in
     ap (λ n. take n (x ∷ xs)) e ∙ ap (λ r. x ∷ r) (take_min size xs)
 
-drop_min : {A : Type 0} (size : ℕ) (xs : List A) → drop (min (length xs) size) xs ≡ drop size xs
+pub drop_min : {A : Type 0} (size : ℕ) (xs : List A) → drop (min (length xs) size) xs ≡ drop size xs
 drop_min zero xs = let e : min (length xs) 0 ≡ 0 = omega arith in ap (λ n. drop n xs) e
 drop_min (suc size) [] = let e : min 0 (suc size) ≡ 0 = omega arith in ap (λ n. drop n []) e
 drop_min (suc size) (x ∷ xs) =
     let e : min (suc (length xs)) (suc size) ≡ suc (min (length xs) size) = omega arith in
     ap (λ n. drop n (x ∷ xs)) e ∙ drop_min size xs
-
--- the first part, and the parts of what is behind it
-pub parts_next : {A : Type 0} (size : ℕ) (xs : List A) → 0 < size → 0 < length xs
-    → parts_of size xs ≡ take (min (length xs) size) xs ∷ parts_of size (drop (min (length xs) size) xs)
-parts_next size xs some e =
-    parts_more size xs some e ∙ ap (λ f. f ∷ parts_of size (drop size xs)) (sym (take_min size xs))
-    ∙ ap (λ r. take (min (length xs) size) xs ∷ parts_of size r) (sym (drop_min size xs))
 
 pub some_left : {A : Type 0} (b : Bool) (xs : List A) → b ≡ (length xs == 0) → b ≡ false → 0 < length xs
 some_left b [] e f = absurd (true≢false (sym e ∙ f))

@@ -1,5 +1,5 @@
 -- What is written, piece by piece.
-use Rattle.std.proofs.Common.{◌≡◌, ℕ, zero, suc, ◌+◌, ◌-◌, ◌<◌, ◌≤◌, Bool, true, false, List, [], ◌∷◌, ◌++◌, length, take, drop, min, Option, Some, None, refl, sym, ap, ◌∙◌, arith, append_assoc, append-nil, length-append}
+use Rattle.std.proofs.Common.{◌≡◌, ℕ, zero, suc, ◌+◌, ◌-◌, ◌<◌, ◌≤◌, Bool, true, false, List, [], ◌∷◌, ◌++◌, length, take, drop, Option, Some, None, refl, sym, ap, ◌∙◌, arith, append_assoc, append-nil, length-append}
 use Rattle.std.specs.List.{All}
 use Rattle.std.proofs.lemmas.List.Elements.{All-take, All-drop}
 use Rattle.row_base.specs.declared.row.Datum.{Datum}
@@ -8,7 +8,7 @@ use Rattle.row_base.specs.Schema.{TableSchema}
 use Rattle.parquet_meta.specs.declared.meta.RowGroup.{RowGroup}
 use Rattle.parquet_pages.specs.Places.{can_place}
 use Rattle.parquet_plain.specs.Written.{page_of, pages_of, parts_of, page_values_most, AreIn, group_text, groups_text, group_entry, group_entries, groups_of, group_rows_most}
-use Rattle.parquet_plain.proofs.Parts.{parts_none, parts_next}
+use Rattle.parquet_plain.proofs.Parts.{parts_none, parts_more}
 
 -- ---- pages
 
@@ -21,17 +21,15 @@ AreIn-drop None nullable n vs h = tt
 AreIn-drop (Some ds) nullable n vs h = All-drop (λ v. can_place ds nullable v ≡ true) n vs h
 
 -- a page is written, and the pages of the values behind it are left
-pub pages_step : (c : Column) (dictionary : Option (List Datum)) (old new : List ℕ) (rest page later : List Datum) (n : ℕ) → n ≡ min (length rest) 4096 → page ≡ take n rest
-    → later ≡ drop n rest → 0 < length rest → new ≡ old ++ page_of c dictionary page
+pub pages_step : (c : Column) (dictionary : Option (List Datum)) (old new : List ℕ) (rest page later : List Datum) → page ≡ take page_values_most rest → later ≡ drop page_values_most rest → 0 < length rest → new ≡ old ++ page_of c dictionary page
     → new ++ pages_of c dictionary (parts_of page_values_most later) ≡ old ++ pages_of c dictionary (parts_of page_values_most rest)
 unfolding pages_of
-pages_step c dictionary old new rest page later n is first behind some e =
+pages_step c dictionary old new rest page later first behind some e =
     ap (λ t. t ++ pages_of c dictionary (parts_of page_values_most later)) e
     ∙ append_assoc old (page_of c dictionary page) (pages_of c dictionary (parts_of page_values_most later))
     ∙ ap (λ p. old ++ (page_of c dictionary p ++ pages_of c dictionary (parts_of page_values_most later))) first
-    ∙ ap (λ r. old ++ (page_of c dictionary (take n rest) ++ pages_of c dictionary (parts_of page_values_most r))) behind
-    ∙ ap (λ m. old ++ pages_of c dictionary (take m rest ∷ parts_of page_values_most (drop m rest))) is
-    ∙ ap (λ ps. old ++ pages_of c dictionary ps) (sym (parts_next page_values_most rest (omega arith) some))
+    ∙ ap (λ r. old ++ (page_of c dictionary (take page_values_most rest) ++ pages_of c dictionary (parts_of page_values_most r))) behind
+    ∙ ap (λ ps. old ++ pages_of c dictionary ps) (sym (parts_more page_values_most rest (omega arith) some))
 
 pub pages_done : (c : Column) (dictionary : Option (List Datum)) (rest : List Datum) (old : List ℕ) → length rest ≡ 0
     → old ≡ old ++ pages_of c dictionary (parts_of page_values_most rest)
@@ -41,35 +39,31 @@ pages_done c dictionary rest old e =
 
 -- ---- groups
 
-pub groups_step : (s : TableSchema) (old new : List ℕ) (rest group later : List (List Datum)) (n : ℕ) → n ≡ min (length rest) 16384 → group ≡ take n rest
-    → later ≡ drop n rest → 0 < length rest → new ≡ old ++ group_text s group
+pub groups_step : (s : TableSchema) (old new : List ℕ) (rest group later : List (List Datum)) → group ≡ take group_rows_most rest → later ≡ drop group_rows_most rest → 0 < length rest → new ≡ old ++ group_text s group
     → new ++ groups_text s (groups_of later) ≡ old ++ groups_text s (groups_of rest)
 unfolding groups_text
-groups_step s old new rest group later n is first behind some e =
+groups_step s old new rest group later first behind some e =
     ap (λ t. t ++ groups_text s (groups_of later)) e
     ∙ append_assoc old (group_text s group) (groups_text s (groups_of later))
     ∙ ap (λ g. old ++ (group_text s g ++ groups_text s (groups_of later))) first
-    ∙ ap (λ r. old ++ (group_text s (take n rest) ++ groups_text s (groups_of r))) behind
-    ∙ ap (λ m. old ++ groups_text s (take m rest ∷ groups_of (drop m rest))) is
-    ∙ ap (λ gs. old ++ groups_text s gs) (sym (parts_next group_rows_most rest (omega arith) some))
+    ∙ ap (λ r. old ++ (group_text s (take group_rows_most rest) ++ groups_text s (groups_of r))) behind
+    ∙ ap (λ gs. old ++ groups_text s gs) (sym (parts_more group_rows_most rest (omega arith) some))
 
 pub groups_done : (s : TableSchema) (rest : List (List Datum)) (old : List ℕ) → length rest ≡ 0 → old ≡ old ++ groups_text s (groups_of rest)
 unfolding groups_text
 groups_done s rest old e = sym (ap (λ gs. old ++ groups_text s gs) (parts_none group_rows_most rest e) ∙ append-nil old)
 
-pub entries_step : (s : TableSchema) (told more : List RowGroup) (old new : List ℕ) (rest group later : List (List Datum)) (n : ℕ) → n ≡ min (length rest) 16384 → group ≡ take n rest
-    → later ≡ drop n rest → 0 < length rest → new ≡ old ++ group_text s group → more ≡ told ++ group_entry s (length old) group ∷ []
+pub entries_step : (s : TableSchema) (told more : List RowGroup) (old new : List ℕ) (rest group later : List (List Datum)) → group ≡ take group_rows_most rest → later ≡ drop group_rows_most rest → 0 < length rest → new ≡ old ++ group_text s group → more ≡ told ++ group_entry s (length old) group ∷ []
     → more ++ group_entries s (length new) (groups_of later) ≡ told ++ group_entries s (length old) (groups_of rest)
 unfolding group_entries
-entries_step s told more old new rest group later n is first behind some e m =
+entries_step s told more old new rest group later first behind some e m =
     let long : length new ≡ length old + length (group_text s group) = ap length e ∙ length-append old (group_text s group) in
     ap (λ x. x ++ group_entries s (length new) (groups_of later)) m
     ∙ append_assoc told (group_entry s (length old) group ∷ []) (group_entries s (length new) (groups_of later))
     ∙ ap (λ k. told ++ (group_entry s (length old) group ∷ group_entries s k (groups_of later))) long
     ∙ ap (λ g. told ++ (group_entry s (length old) g ∷ group_entries s (length old + length (group_text s g)) (groups_of later))) first
-    ∙ ap (λ r. told ++ (group_entry s (length old) (take n rest) ∷ group_entries s (length old + length (group_text s (take n rest))) (groups_of r))) behind
-    ∙ ap (λ k. told ++ group_entries s (length old) (take k rest ∷ groups_of (drop k rest))) is
-    ∙ ap (λ gs. told ++ group_entries s (length old) gs) (sym (parts_next group_rows_most rest (omega arith) some))
+    ∙ ap (λ r. told ++ (group_entry s (length old) (take group_rows_most rest) ∷ group_entries s (length old + length (group_text s (take group_rows_most rest))) (groups_of r))) behind
+    ∙ ap (λ gs. told ++ group_entries s (length old) gs) (sym (parts_more group_rows_most rest (omega arith) some))
 
 pub entries_done : (s : TableSchema) (rest : List (List Datum)) (told : List RowGroup) (at : ℕ) → length rest ≡ 0 → told ≡ told ++ group_entries s at (groups_of rest)
 unfolding group_entries

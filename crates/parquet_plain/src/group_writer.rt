@@ -1,5 +1,5 @@
 //! The row groups of a file that is written (parquet.thrift, `RowGroup`).
-ghost use Rattle.std.specs.Prelude.{◌≡◌, ◌++◌, ◌≤◌, length, IfOk, OnOk};
+ghost use Rattle.std.specs.Prelude.{◌≡◌, ◌++◌, ◌<◌, ◌≤◌, length, take, drop, IfOk, OnOk};
 ghost use Rattle.std.specs.List.{All};
 ghost use Rattle.row_base.specs.Schema.{FitsSchema};
 ghost use Rattle.parquet_plain.specs.Written as spec;
@@ -56,6 +56,17 @@ fn append_group(
     })
 }
 
+/// The rows of the next group, and those behind it.
+#[tactic(auto, using(crate::proofs::Parts::take_min, crate::proofs::Parts::drop_min))]
+fn next_group(rows: &[Row]) -> (&[Row], &[Row])
+    ensures group { result.0.now ≡ take spec.group_rows_most rows.now }
+    ensures later { result.1.now ≡ drop spec.group_rows_most rows.now }
+    ensures few { length result.0.now ≤ 16384 }
+    ensures fewer { 0 < length rows.now → length result.1.now < length rows.now }
+{
+    rows.split_at(rows.len().min(GROUP_ROWS))
+}
+
 /// The groups of a file, and what the footer says of them.
 pub(crate) fn append_groups(
     alloc: Global,
@@ -70,7 +81,7 @@ pub(crate) fn append_groups(
     let mut groups = Vec::new(alloc);
     let mut rest = rows;
     while !rest.is_empty() {
-        let (group, later) = rest.split_at(rest.len().min(GROUP_ROWS));
+        let (group, later) = next_group(rest);
         groups.push(append_group(alloc, schema, group, out)?)?;
         rest = later;
     }

@@ -1,5 +1,5 @@
 //! The pages of a chunk that is written (README.md, "Data Pages"; parquet.thrift, `PageHeader`).
-ghost use Rattle.std.specs.Prelude.{◌≡◌, ◌++◌, ◌≤◌, ◌^◌, ◌<◌, length, pos, IfOk, OnOk};
+ghost use Rattle.std.specs.Prelude.{◌≡◌, ◌++◌, ◌≤◌, ◌^◌, ◌<◌, length, take, drop, pos, IfOk, OnOk};
 ghost use Rattle.std.specs.List.{All};
 ghost use Rattle.parquet_meta.specs.Written.{head_text};
 ghost use Rattle.parquet_pages.specs.Written.{CanStand};
@@ -113,6 +113,17 @@ fn append_values(
     }
 }
 
+/// The values of the next page, and those behind it.
+#[tactic(auto, using(crate::proofs::Parts::take_min, crate::proofs::Parts::drop_min))]
+fn next_page(values: &[Datum]) -> (&[Datum], &[Datum])
+    ensures page { result.0.now ≡ take spec.page_values_most values.now }
+    ensures later { result.1.now ≡ drop spec.page_values_most values.now }
+    ensures few { length result.0.now ≤ 4096 }
+    ensures fewer { 0 < length values.now → length result.1.now < length values.now }
+{
+    values.split_at(values.len().min(PAGE_VALUES))
+}
+
 /// The data pages of a chunk.
 pub(crate) fn append_pages(
     alloc: Global,
@@ -127,7 +138,7 @@ pub(crate) fn append_pages(
 {
     let mut rest = values;
     while !rest.is_empty() {
-        let (page, later) = rest.split_at(rest.len().min(PAGE_VALUES));
+        let (page, later) = next_page(rest);
         append_values(alloc, column, dictionary, page, out)?;
         rest = later;
     }

@@ -21,7 +21,14 @@ pub(crate) fn first_name(alloc: Global, schema: &Schema) -> Result<Text, NoMemor
     Text::make(alloc, "")
 }
 
-/// The rows of a Parquet file for a table of this schema.
+/// The rows of a Parquet file for a table of this schema (Parquet format, README.md, "File format"). Columns are found by
+/// name; partition columns, and columns that the file lacks and that may be null, are null in each row.
+///
+/// The fault is the first one in reading order: the footer (`Short`, `Magic`, `Footer`, `Thrift`), the schema's elements in
+/// order (`Nested`, `Physical`, `Shape` with the element's name), then the row groups in order, and in each the columns in
+/// the schema's order: the chunk (`Physical`, `Codec`, `Shape` with the column's name) and its pages (`Thrift`, `Page` at
+/// the place of a head or of a body, `Encoding`, `PageKind`, `Shape`). A group with which there are more than 16,777,216
+/// rows is `Shape` of the first column that is no partition column.
 #[tactic(auto, unfolding(crate::specs::Reading::file_rows))]
 pub fn read_file(alloc: Global, schema: &Schema, bytes: &[u8]) -> Result<Vec<Row>, FileFault>
     ensures { MatchResult result (λ v. spec.file_rows schema.now bytes.now ≡ Ok v.items) (λ e. FaultOf e (spec.file_rows schema.now bytes.now)) }

@@ -51,7 +51,10 @@ fn meta_of(
     })
 }
 
-/// The Parquet file of these rows, without the partition columns.
+/// The Parquet file of these rows, without the partition columns: groups of at most 16,384 rows, pages of at most 4,096
+/// values, each full but the last, and dictionaries where they pay (Parquet format, README.md, "File format"). A page's
+/// body of 2^31 bytes or more, which texts of at most 65,535 bytes never make, is refused as one for which no memory is
+/// left.
 #[tactic(auto, unfolding(crate::specs::Written::file_text))]
 pub fn write_file(alloc: Global, schema: &Schema, rows: &[Row]) -> Result<Vec<u8>, NoMemory>
     requires few { length rows.now ≤ 16777216 }

@@ -1,4 +1,4 @@
-use Rattle.std.proofs.Common.{◌≡◌, ◌++◌, ◌<◌, ◌≤◌, ℕ, [], ap, sym, ◌∙◌, refl, length, min, arith, subst, drop, take}
+use Rattle.std.proofs.Common.{◌≡◌, ◌++◌, ◌<◌, ◌≤◌, ℕ, [], ap, sym, ◌∙◌, refl, length, arith, subst, drop, take}
 use Rattle.std.specs.List.{All}
 use Rattle.std.proofs.lemmas.List.Elements.{All-take, All-drop}
 use Rattle.row_base.specs.declared.row.Datum.{Datum}
@@ -10,24 +10,24 @@ use Rattle.parquet_plain.proofs.page_writer.append_pages.Goals as goal
 
 pub append_values-requires-clause-stand : goal.append_values-requires-clause-stand
 append_values-requires-clause-stand c =
-    subst (All (CanStand c.args.column.now.kind c.args.column.now.nullable)) (sym c.split_at.ensures.front)
-    (All-take (CanStand c.args.column.now.kind c.args.column.now.nullable) c.min.result c.loop-rest.rest.now c.loop-rest.invariant.stand)
+    subst (All (CanStand c.args.column.now.kind c.args.column.now.nullable)) (sym c.next_page.ensures.page)
+    (All-take (CanStand c.args.column.now.kind c.args.column.now.nullable) page_values_most c.loop-rest.rest.now c.loop-rest.invariant.stand)
 
 pub append_values-requires-clause-placed : goal.append_values-requires-clause-placed
 append_values-requires-clause-placed c =
-    subst (AreIn c.args.dictionary.now c.args.column.now.nullable) (sym c.split_at.ensures.front)
-    (AreIn-take c.args.dictionary.now c.args.column.now.nullable c.min.result c.loop-rest.rest.now c.loop-rest.invariant.placed)
+    subst (AreIn c.args.dictionary.now c.args.column.now.nullable) (sym c.next_page.ensures.page)
+    (AreIn-take c.args.dictionary.now c.args.column.now.nullable page_values_most c.loop-rest.rest.now c.loop-rest.invariant.placed)
 
 pub loop-rest-preserved : goal.loop-rest-preserved
 loop-rest-preserved c = record {
   text =
-      pages_step c.args.column.now c.args.dictionary.now c.loop-rest.out.items c.append_values.new.out.items c.loop-rest.rest.now c.split_at.result.0.now c.split_at.result.1.now c.min.result
-      c.min.ensures c.split_at.ensures.front c.split_at.ensures.back (some_left c.is_empty.result c.loop-rest.rest.now c.is_empty.ensures c.loop-rest-test.true) c.in_ok-append_values.ensures
+      pages_step c.args.column.now c.args.dictionary.now c.loop-rest.out.items c.append_values.new.out.items c.loop-rest.rest.now c.next_page.result.0.now c.next_page.result.1.now
+      c.next_page.ensures.page c.next_page.ensures.later (some_left c.is_empty.result c.loop-rest.rest.now c.is_empty.ensures c.loop-rest-test.true) c.in_ok-append_values.ensures
       ∙ c.loop-rest.invariant.text;
-  stand = subst (All (CanStand c.args.column.now.kind c.args.column.now.nullable)) (sym c.split_at.ensures.back)
-      (All-drop (CanStand c.args.column.now.kind c.args.column.now.nullable) c.min.result c.loop-rest.rest.now c.loop-rest.invariant.stand);
-  placed = subst (AreIn c.args.dictionary.now c.args.column.now.nullable) (sym c.split_at.ensures.back)
-      (AreIn-drop c.args.dictionary.now c.args.column.now.nullable c.min.result c.loop-rest.rest.now c.loop-rest.invariant.placed);
+  stand = subst (All (CanStand c.args.column.now.kind c.args.column.now.nullable)) (sym c.next_page.ensures.later)
+      (All-drop (CanStand c.args.column.now.kind c.args.column.now.nullable) page_values_most c.loop-rest.rest.now c.loop-rest.invariant.stand);
+  placed = subst (AreIn c.args.dictionary.now c.args.column.now.nullable) (sym c.next_page.ensures.later)
+      (AreIn-drop c.args.dictionary.now c.args.column.now.nullable page_values_most c.loop-rest.rest.now c.loop-rest.invariant.placed);
 }
 
 pub returns : goal.returns
