@@ -1,4 +1,4 @@
-// The attempts of a commit, one call of the store after another.
+//! The attempts of a commit, one call of the store after another.
 ghost use Rattle.std.specs.Prelude.{◌≡◌, ◌+◌, ◌*◌, ◌<◌, ◌≤◌, ◌^◌, [], IsSomeAnd, IfSome, Option};
 ghost use Rattle.edge_api.specs.Actor.{IsFit};
 ghost use Rattle.call_phases.specs.Phases.{Entries};

@@ -1,4 +1,4 @@
-// How the attempts of a commit end.
+//! How the attempts of a commit end.
 ghost use Rattle.std.specs.Prelude.{◌≡◌};
 
 use edge_api::{Body, Called, Name};
@@ -20,12 +20,14 @@ impl Model for Bodies {
 }
 
 impl Bodies {
+    /// The list of these bodies.
     pub fn from_vec(items: Vec<Body>) -> Bodies
         ensures { result ≡ items.items }
     {
         Bodies { items }
     }
 
+    /// The bodies.
     pub fn as_slice(&self) -> &[Body]
         ensures { result.now ≡ self.now }
     {

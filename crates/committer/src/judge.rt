@@ -1,4 +1,4 @@
-// What a statement says of its commit's text and of the commits that won over it.
+//! What a statement says of its commit's text and of the commits that won over it.
 ghost use Rattle.std.specs.Prelude.{◌≡◌, ℕ, List, Result};
 ghost use Rattle.committer.specs.Judging.{ClearHolds};
 

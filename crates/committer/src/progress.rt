@@ -1,4 +1,4 @@
-// How far the attempts of a commit have come.
+//! How far the attempts of a commit have come.
 ghost use Rattle.std.specs.Prelude.{◌≡◌, ◌+◌, ◌-◌, ◌<◌, ◌≤◌, ◌^◌, IfOk};
 ghost use Rattle.table_rules.specs.Names.{commit_text};
 ghost use Rattle.committer.specs.Names.{called_now};

@@ -1,4 +1,4 @@
-// What the next call of the attempts is for.
+//! What the next call of the attempts is for.
 ghost use Rattle.std.specs.Prelude.{◌≡◌, IfOk, Option};
 ghost use Rattle.committer.specs.Machine.{call_at};
 ghost use Rattle.committer.specs.Steps.{ahead_of, or_no_memory, result_of};

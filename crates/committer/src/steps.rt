@@ -1,4 +1,4 @@
-// The steps of the attempts: what comes after each answer.
+//! The steps of the attempts: what comes after each answer.
 ghost use Rattle.std.specs.Prelude.{◌≡◌, ◌+◌, ◌*◌, ◌<◌, ◌≤◌, ◌^◌, IsSomeAnd, IfSome, Option};
 ghost use Rattle.edge_api.specs.Journal.{IsOfKind};
 ghost use Rattle.call_phases.specs.Phases.{Entries};

@@ -1,4 +1,4 @@
-// Attempts against answers that are given one after another, with the calls worked out by hand.
+//! Attempts against answers that are given one after another, with the calls worked out by hand.
 ghost use Rattle.std.specs.Prelude.{◌≡◌, ◌<◌, ◌≤◌, ◌^◌, IsTrue, IfOk, IfSome};
 ghost use Rattle.edge_api.specs.Actor.{IsFit};
 ghost use Rattle.committer.specs.Machine.{IsReady};

@@ -1,5 +1,5 @@
-// A script is run and its replies are printed.
-ghost use Rattle.std.specs.Prelude.{◌≡◌, ◌≤◌, length, map, All, IfOk, OnErr};
+//! A script is run and its replies are printed.
+ghost use Rattle.std.specs.Prelude.{◌≡◌, map, IfOk, OnErr};
 ghost use Rattle.actor_core.specs.Faults.{FaultsAreCounted};
 ghost use Rattle.script_text.specs.Fit.{IsFit};
 ghost use Rattle.delta_run.specs.Play.{Plays, MayRun, program_of};

@@ -1,4 +1,4 @@
-// Whole runs over a store in memory. The expected texts are worked out by hand.
+//! Whole runs over a store in memory. The expected texts are worked out by hand.
 use crate::top::{Finished, run, run_step};
 use edge_api::{Gate, MemSink, MemSource, MemWorld, Tag};
 use row_base::Text;

@@ -1,4 +1,4 @@
-// The top call.
+//! The top call.
 ghost use Rattle.std.specs.Prelude.{◌≡◌, ◌≢◌, ◌≤◌, length, None, IfOk, IfErr};
 ghost use Rattle.edge_api.specs.Streams.{ReadsAll};
 ghost use Rattle.actor_core.specs.Faults.{FaultsAreCounted};

@@ -1,12 +1,10 @@
 -- Sessions, seen by where they stand.
 use Rattle.std.proofs.Common.{◌≡◌, ℕ, suc, List, [], ◌∷◌, ◌++◌, length, map, refl, sym, ap, subst}
 use Rattle.std.proofs.lemmas.List.{length-map}
-use Rattle.std.specs.Prelude.{◌↔◌, Option, Some, None}
-use Rattle.edge_api.specs.declared.actor.Stage.TheVariants as place
-use Rattle.edge_api.specs.Actor.{Event, Made, Refused, Moves}
+use Rattle.std.specs.Prelude.{Option, Some, None}
+use Rattle.edge_api.specs.Actor.{Event, Moves}
 use Rattle.op_types.specs.declared.statement.Statement.{Statement}
 use Rattle.txn_machine.specs.declared.txn.Txn.{Txn}
-use Rattle.txn_machine.specs.Place.{place_of}
 use Rattle.actor_core.specs.declared.piece.Till.TheVariants.{End}
 use Rattle.actor_core.specs.declared.schedule.Item.{Item}
 use Rattle.actor_core.specs.Piece.{RunsPiece}
@@ -14,13 +12,10 @@ use Rattle.actor_core.specs.Schedule.{slots_of, to_the_end, FollowsSlots, Follow
 use Rattle.actor_core.proofs.Pieces.{Told}
 use Rattle.actor_core.proofs.Along.{runs_along, follows_along}
 use Rattle.sessions.specs.declared.session.Session.{Session}
-use Rattle.sessions.specs.Session.{Goes, place_now, IsEntryOf, IsFurther}
-use Rattle.session_runs.specs.Run.{AllBegin}
-use Rattle.session_runs.specs.Order.{Under, Spot, place_in, place_at, IsEntryAt, IsNext, Passes, AllNumbered}
-
-abbrev under : Option Txn → Option Under
-under None = None
-under (Some t) = Some (record { tag = t.plan.tag; place = place_of t.stage })
+use Rattle.sessions.specs.Session.{Goes, place_now}
+use Rattle.sessions.specs.Under.{under}
+use Rattle.session_runs.specs.Run.{Begins, AllBegin}
+use Rattle.session_runs.specs.Order.{Spot, place_in, place_at, Passes, IsAtStart, AllAtStart}
 
 -- a session by its number and what is under way
 abbrev pub seen : Session → Spot
@@ -30,25 +25,8 @@ place_seen : (o : Option Txn) → place_in (under o) ≡ place_now o
 place_seen None = refl
 place_seen (Some t) = refl
 
-entry_seen : (o : Option Txn) (e : Event) → IsEntryOf o e → IsEntryAt (under o) e
-entry_seen None (Made e) h = h
-entry_seen (Some t) (Made e) h = h
-entry_seen None Refused h = tt
-entry_seen (Some t) Refused h = tt
-
-between_seen : (o n : Option Txn) → ((place_now n ≡ place.Between) ↔ IsFurther o n) → ((place_in (under n) ≡ place.Between) ↔ IsNext (under o) (under n))
-between_seen None None h = h
-between_seen None (Some u) h = h
-between_seen (Some t) None h = h
-between_seen (Some t) (Some u) h = h
-
 passes : (a b : Session) (e : Event) → Moves Goes (λ (s : Session). s.actor) a e b → Passes (seen a) e (seen b)
-passes a b e m = record {
-  entry = entry_seen a.current e (m.leads).entry;
-  by = m.by;
-  same = m.same;
-  between = between_seen a.current b.current (m.leads).between;
-}
+passes a b e m = record { led = (m.leads).led; by = m.by; same = m.same }
 
 pub runs_seen : (before after : Told) (a b : Session) → RunsPiece (Moves Goes (λ (s : Session). s.actor)) (λ (s : Session). place_now s.current) End before after a b → RunsPiece Passes place_at End before after (seen a) (seen b)
 runs_seen before after a b r = runs_along (Moves Goes (λ (s : Session). s.actor)) Passes (λ (s : Session). place_now s.current) place_at seen (λ s. place_seen s.current) passes End before after a b r
@@ -59,7 +37,10 @@ follows_seen items before after olds news f =
     subst (λ (n : ℕ). FollowsSlots Passes place_at (slots_of items ++ to_the_end n) before after (map seen olds) (map seen news)) (sym (length-map olds seen))
     (follows_along (Moves Goes (λ (s : Session). s.actor)) Passes (λ (s : Session). place_now s.current) place_at seen (λ s. place_seen s.current) passes (slots_of items ++ to_the_end (length olds)) before after olds news f)
 
-pub numbered_seen : (limit k : ℕ) (scripts : List (List Statement)) (ss : List Session) → AllBegin limit k scripts ss → AllNumbered k scripts (map seen ss)
-numbered_seen limit k [] ss h = ap (map seen) h
-numbered_seen limit k (statements ∷ scripts) [] h = h
-numbered_seen limit k (statements ∷ scripts) (s ∷ ss) h = ((h.0).number, numbered_seen limit (suc k) scripts ss h.1)
+pub start_seen : (limit k : ℕ) (statements : List Statement) (s : Session) → Begins k limit statements s → IsAtStart k (seen s)
+start_seen limit k statements s h = (h.number, h.fresh)
+
+pub starts_seen : (limit k : ℕ) (scripts : List (List Statement)) (ss : List Session) → AllBegin limit k scripts ss → AllAtStart k scripts (map seen ss)
+starts_seen limit k [] ss h = ap (map seen) h
+starts_seen limit k (statements ∷ scripts) [] h = h
+starts_seen limit k (statements ∷ scripts) (s ∷ ss) h = (start_seen limit k statements s h.0, starts_seen limit (suc k) scripts ss h.1)

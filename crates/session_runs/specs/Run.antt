@@ -15,6 +15,7 @@ use Rattle.actor_core.specs.declared.schedule.Item.{Item}
 use Rattle.actor_core.specs.Entries.{of_actor}
 use Rattle.sessions.specs.declared.session.Session.{Session}
 use Rattle.sessions.specs.Session.{plans_from, AnsweredTo, Remains, IsReady}
+use Rattle.sessions.specs.Under.{under, IsFresh}
 use Rattle.table_laws.specs.Conflicts.{Level}
 use Rattle.table_laws.specs.Folded.{RowsAreFolded}
 use Rattle.table_laws.specs.Laws.{VersionsAreSerial, CommitsOnce, FirstIsEmpty, CommitsLand, RepliesCommitted, RepliesRead}
@@ -78,6 +79,7 @@ Runs p before after replies = (part : List JournalEntry) × Grows before part af
 pub record Begins (actor limit : ℕ) (statements : List Statement) (s : Session) : Type 0 where
   pub ready : IsReady s
   pub number : s.actor ≡ actor
+  pub fresh : IsFresh actor (under s.current)
   pub answers : (es : List JournalEntry) (all : List Reply) → Remains s es all → AnsweredTo None (plans_from actor limit 1 statements) es all
 
 -- a session for each list of statements, with the numbers from one on

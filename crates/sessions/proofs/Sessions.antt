@@ -44,10 +44,10 @@ event_now killed o t (Made e) ps es (r ∷ rs) goes (inl x) =
 event_now killed o t (Made e) ps es (r ∷ rs) goes (inr h) =
     inr (e ∷ h.0, h.1, ap (λ (l : Entries). e ∷ l) h.2, (goes.1, subst (λ (p : Plan). AllTagged p.tag h.0) goes.0 h.3), goes.2 h.0 (Some r) (subst (λ (p : Plan). Rest p t.stage h.0 (Some r)) goes.0 h.4), h.5)
 event_now killed o t Refused ps es (r ∷ rs) goes (inl x) =
-    let ends = goes.1 es None (subst (λ (p : Plan). Rest p t.stage es None) goes.0 x.2) in
+    let ends = goes.2 es None (subst (λ (p : Plan). Rest p t.stage es None) goes.0 x.2) in
     inl (x.0, (x.1.0, x.1.1, subst (λ (p : Plan). AllTagged p.tag es) goes.0 x.1.2), ends.1)
 event_now killed o t Refused ps es (r ∷ rs) goes (inr h) =
-    let ends = goes.1 h.0 (Some r) (subst (λ (p : Plan). Rest p t.stage h.0 (Some r)) goes.0 h.4) in
+    let ends = goes.2 h.0 (Some r) (subst (λ (p : Plan). Rest p t.stage h.0 (Some r)) goes.0 h.4) in
     inr (h.0, h.1, h.2, subst (λ (p : Plan). AllTagged p.tag h.0) goes.0 h.3, ends.1, h.5)
 
 pub event_rest : (killed : Bool) (old : Session) (tag : Tag) (call : Call) (self : Session) (o t : Txn) (event : Event) (es : Entries) (all : List Reply) → Asks old tag call self → old.current ≡ Some o → txn.Goes o event t

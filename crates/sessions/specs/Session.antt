@@ -17,6 +17,7 @@ use Rattle.txn_machine.specs.Place.{place_of, IsCallAt}
 use Rattle.txn_machine.specs.Txn as txn
 use Rattle.txn_machine.specs.declared.txn.Txn.{Txn}
 use Rattle.sessions.specs.declared.session.Session.{Session}
+use Rattle.sessions.specs.Under.{under, IsLed}
 
 -- a statement under its tag, and the limit of its attempts
 pub record Numbered : Type 0 where
@@ -87,23 +88,9 @@ abbrev pub place_now : Option Txn → Place
 place_now None = place.Done
 place_now (Some t) = place_of t.stage
 
--- the entry is of the statement under way, and its call is that of the place: the first of a statement reads the clock, and an attempt puts a commit
-abbrev pub IsEntryOf : Option Txn → Event → Type 0
-IsEntryOf None (Made e) = ⊥
-IsEntryOf (Some t) (Made e) = (e.tag ≡ t.plan.tag) × IsCallAt (place_of t.stage) e.call
-IsEntryOf now Refused = Unit {0}
-
--- another statement is under way than before
-abbrev pub IsFurther : Option Txn → Option Txn → Type 0
-IsFurther None new = ⊥
-IsFurther (Some t) None = ⊥
-IsFurther (Some t) (Some u) = t.plan.tag ≢ u.plan.tag
-
--- An event leads from one session to the other: its entry is the one of the old place, and the new one stands between two statements exactly where a
--- further one is to make its first call. With the entry in front, what remains of the new one is what remains of the old one
+-- An event leads from one session to the other, by what is under way. With its entry in front, what remains of the new one is what remains of the old one
 pub record Goes (old : Session) (event : Event) (new : Session) : Type 0 where
-  pub entry : IsEntryOf old.current event
-  pub between : (place_now new.current ≡ place.Between) ↔ IsFurther old.current new.current
+  pub led : IsLed (under old.current) event (under new.current)
   pub leads : (es : Entries) (all : List Reply) → Remains new es all → Remains old (entries_of_events (event ∷ []) ++ es) all
 
 -- a statement is under way and makes a call next, or all are done

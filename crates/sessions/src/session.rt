@@ -1,10 +1,11 @@
-// Statements one after another, as an actor.
-ghost use Rattle.std.specs.Prelude.{◌≡◌, ◌<◌, ◌≤◌, ◌+◌, ◌*◌, ℕ, length, List, [], ◌∷◌, ◌++◌, Option, Some, None, Bool, if◌then◌else◌, IfOk, IfSome, vec_capacity};
+//! Statements one after another, as an actor.
+ghost use Rattle.std.specs.Prelude.{◌≡◌, ◌<◌, ◌≤◌, ◌+◌, ◌*◌, length, List, [], Option, Some, None, Bool, if◌then◌else◌, IfOk, IfSome, vec_capacity};
 ghost use Rattle.call_phases.specs.Phases.{Entries};
 ghost use Rattle.op_types.specs.declared.reply.Reply.{Reply as AReply};
 ghost use Rattle.txn_machine.specs.Machine.{left_of};
 ghost use Rattle.txn_machine.specs.Txn as txn_specs;
-ghost use Rattle.sessions.specs.Session.{plans_from, later_plans, AnsweredTo, RestBy, Stops, Remains, RemainsAfter, HasCalls, count_of, Goes, IsLimit, IsReadyNow, count_now, IsSettled, IsReady, Asks, left_now, left, place_now, Begins, IsCounted, IsNew, GoesOn, StaysOrEnds};
+ghost use Rattle.sessions.specs.Session.{plans_from, later_plans, AnsweredTo, RestBy, Stops, Remains, RemainsAfter, HasCalls, count_of, Goes, IsLimit, count_now, IsSettled, IsReady, Asks, left_now, left, place_now, Begins, IsCounted, IsNew, GoesOn, StaysOrEnds};
+ghost use Rattle.sessions.specs.Under.{under, IsFresh};
 
 use edge_api::{Actor, Fed, Stage as Place, Step, Tag};
 use op_types::{Reply, Statement};
@@ -70,6 +71,7 @@ impl Session {
         requires few { length statements.items ≤ 4096 }
         ensures ready { IfOk result IsReady }
         ensures actor { IfOk result (λ s. s.actor ≡ actor) }
+        ensures fresh { IfOk result (λ s. IsFresh actor (under s.current)) }
         ensures starts { IfOk result (λ s. (es : Entries) (all : List AReply) → Remains s es all → AnsweredTo kill (plans_from actor limit 1 statements.items) es all) }
     {
         let replies = Vec::with_capacity(alloc, statements.len())?;
@@ -100,8 +102,10 @@ impl Session {
         requires room { length self.old.replies.items + count_now first + length self.old.later.items ≤ vec_capacity self.old.replies }
         requires numbers { self.old.next + length self.old.later.items < 4294967296 }
         requires counted { IsCounted first self.old.next }
+        requires fresh { IfSome first (IsNew 1 self.old.next) }
         ensures ready { IsReady self.new }
         ensures actor { self.new.actor ≡ self.old.actor }
+        ensures fresh { IsFresh self.old.actor (under self.new.current) }
         ensures starts { (es : Entries) (all : List AReply) → Remains self.new es all → (killed : Bool) × Stops self.old.kill (length es) killed × RestBy killed self.old.replies.items first (later_plans self.old) es all }
     {
         if let Some(txn) = first {

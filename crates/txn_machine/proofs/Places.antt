@@ -132,19 +132,20 @@ nothing_left p (stage.Done r) = refl
 
 -- what the statement was fed leads on
 pub fed_leads : (old self : Txn) (tag : Tag) (call : Call) (input : Fed) (new : Txn) → Asks old tag call self → new.plan ≡ self.plan
-    → IfSome (call_of self.stage) (λ call. FedTo self.plan self.stage call input new.stage) → Goes old (event_of tag call input) new
-fed_leads old self tag call input new asks plan goes = by input (subst (λ (o : Option Call). IfSome o (λ c. FedTo self.plan self.stage c input new.stage)) (ap call_of asks.stage ∙ asks.is_call) goes)
+    → IfSome (call_of self.stage) (λ call. FedTo self.plan self.stage call input new.stage) → (input ≡ fed.NoMemory → call_of new.stage ≡ None) → Goes old (event_of tag call input) new
+fed_leads old self tag call input new asks plan goes ended = by input (subst (λ (o : Option Call). IfSome o (λ c. FedTo self.plan self.stage c input new.stage)) (ap call_of asks.stage ∙ asks.is_call) goes) ended
   where
-    by : (input : Fed) → FedTo self.plan self.stage call input new.stage → Goes old (event_of tag call input) new
-    by (fed.Answer answer) follows = (
+    by : (input : Fed) → FedTo self.plan self.stage call input new.stage → (input ≡ fed.NoMemory → call_of new.stage ≡ None) → Goes old (event_of tag call input) new
+    by (fed.Answer answer) follows ended = (
       plan ∙ asks.plan,
       asks.is_tag,
       λ es reply h.
           let here : Follows old.plan old.stage call answer new.stage = subst (λ (s : Stage). Follows old.plan s call answer new.stage) asks.stage (subst (λ (p : Plan). Follows p self.stage call answer new.stage) asks.plan follows) in
           subst (λ (t : Tag). Rest old.plan old.stage (record { tag = t; call = call; answer = answer } ∷ es) reply) (sym asks.is_tag) (here es reply h),
     )
-    by fed.NoMemory ends = (
+    by fed.NoMemory ends ended = (
       plan ∙ asks.plan,
+      ended refl,
       λ es reply h.
           let mine : Rest self.plan new.stage es reply = subst (λ (p : Plan). Rest p new.stage es reply) (sym asks.plan) h in
           let e = ends es reply mine in

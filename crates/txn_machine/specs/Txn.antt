@@ -31,7 +31,7 @@ pub record Asks (old : Txn) (tag : Tag) (call : Call) (new : Txn) : Type 0 where
   pub stage : new.stage ≡ old.stage
   pub some : 0 < left_of old.plan old.stage
 
--- an event leads from one to the other
+-- an event leads from one to the other; after want of memory nothing is called any more
 abbrev pub Goes : Txn → Event → Txn → Type 0
 Goes old (Made e) new = (new.plan ≡ old.plan) × (e.tag ≡ old.plan.tag) × ((es : Entries) (reply : Option Reply) → Rest old.plan new.stage es reply → Rest old.plan old.stage (e ∷ es) reply)
-Goes old Wanting new = (new.plan ≡ old.plan) × EndsOpen old.plan old.stage new.stage
+Goes old Wanting new = (new.plan ≡ old.plan) × (call_of new.stage ≡ None) × EndsOpen old.plan old.stage new.stage

@@ -1,37 +1,29 @@
-// A statement's commit: its data file, its attempts, and the reply.
-ghost use Rattle.std.specs.Prelude.{◌≡◌, ◌+◌, ◌*◌, ◌<◌, ◌≤◌, ◌^◌, ◌-◌, ℕ, suc, length, List, [], ◌∷◌, ◌++◌, ◌⊎◌, Option, IfOk, IfSome, IsSomeAnd, None, Some, OnErr, is_none, IsSome};
-ghost use Rattle.std.specs.declared.result.Result.{Result as AResult};
+//! A statement's commit: its data file, its attempts, and the reply.
+ghost use Rattle.std.specs.Prelude.{◌≡◌, ◌+◌, ◌*◌, ◌<◌, ◌≤◌, ◌^◌, ◌-◌, List, [], Option, IfOk, IfSome, IsSomeAnd, None, Some, is_none, IsSome};
 ghost use Rattle.edge_api.specs.declared.call.Call.TheVariants as call;
-ghost use Rattle.edge_api.specs.declared.call.Listed.{Listed as AListed};
 ghost use Rattle.edge_api.specs.Journal.{IsOfKind};
-ghost use Rattle.row_base.specs.declared.row.Datum.{Datum as ADatum};
 ghost use Rattle.op_types.specs.declared.reply.Reply.{Reply as AReply};
-ghost use Rattle.table_rules.specs.Names.{log_prefix, commit_text, data_text};
-ghost use Rattle.line_texts.specs.Texts.{text_of_add, text_of_rows, text_of_columns};
-ghost use Rattle.snapshot_replay.specs.Table.{no_table, paths_of};
+ghost use Rattle.table_rules.specs.Names.{log_prefix};
+ghost use Rattle.line_texts.specs.Texts.{text_of_columns};
 ghost use Rattle.call_phases.specs.Phases.{Entries};
-ghost use Rattle.txn_machine.specs.Phases.{AtLoad, AtFiles, Cut, missing, newest};
-ghost use Rattle.txn_machine.specs.Answered.{rows_of_files, Sorts, Selected, Selects, Appends, AfterLoad, AfterListing, Loads, Makes, AtCommit, committed, names_of, refusal_of, IsSelected};
+ghost use Rattle.txn_machine.specs.Phases.{newest};
+ghost use Rattle.txn_machine.specs.Answered.{AfterListing, Makes, AtCommit, names_of, refusal_of};
 ghost use Rattle.edge_api.specs.Actor.{IsFit};
 ghost use Rattle.committer.specs.Machine as attempts;
 ghost use Rattle.committer.specs.Machine.{IsReady};
-ghost use Rattle.txn_machine.specs.Machine.{reply_after, landed_after, AtAttempting, FedTo, EndsOpen, Rest, Follows, call_of, left_of, ahead_of, or_no_memory, first_get};
+ghost use Rattle.txn_machine.specs.Machine.{reply_after, landed_after, AtAttempting, FedTo, EndsOpen, Rest, Follows, call_of, left_of};
 
 use crate::CommitJudge;
 use crate::listing::newest_version;
 use crate::stage::{Ahead, Attempting, DataPut, Files, Listing, Loading, Plan, Stage, Start};
-use crate::texts::{Unread, apply_commit, rows_of_file};
 use committer::{AttemptFault, Attempts, Landed};
-use edge_api::{Answer, Body, Call, CallKind, Called, Fed, Listed, Name};
-use line_texts::{write_add, write_columns, write_rows};
-use op_types::{
-    CheckpointOutcome, Clash, Feature, ObjectFault, Refusal, Reply, Statement, TableSpec,
-};
-use row_base::{Column, NoMemory, Row, Rows, ScannedFile, Text, cmp_rows};
+use edge_api::{Answer, Body, CallKind, Fed, Listed};
+use line_texts::{write_add, write_columns};
+use op_types::{CheckpointOutcome, Clash, Refusal, Reply, Statement, TableSpec};
+use row_base::{Column, NoMemory, Text};
 use snapshot_replay::State;
-use std::alloc::{AllocError, Global};
-use std::collections::VecDeque;
-use table_rules::{commit_name, data_file_name, log_prefix};
+use std::alloc::Global;
+use table_rules::log_prefix;
 
 /// How long a commit may take, doubled, in milliseconds: one week.
 const RETENTION: u64 = 604_800_000;
@@ -74,6 +66,7 @@ impl Plan {
         requires { IsReady attempting.attempts }
         ensures ready { result.call ≡ call_of result.stage }
         ensures follows { (es : Entries) (reply : Option AReply) → Rest self result.stage es reply → AtAttempting attempting reply es }
+        ensures ended { attempts.call_of attempting.attempts ≡ None → result.call ≡ None }
         ensures falls { left_of self result.stage ≤ attempts.left_of attempting.attempts }
     {
         match attempting.attempts.next() {
@@ -134,6 +127,7 @@ impl Plan {
         requires { IsSomeAnd (attempts.call_of attempting.attempts) (λ call. IsFit call input) }
         ensures ready { result.call ≡ call_of result.stage }
         ensures goes { IfSome (attempts.call_of attempting.attempts) (λ call. FedTo self (Stage.Attempting attempting) call input result.stage) }
+        ensures memory { input ≡ Fed.NoMemory → result.call ≡ None }
         ensures falls { left_of self result.stage < left_of self (Stage.Attempting attempting) }
     {
         attempting.attempts.feed(input);
@@ -234,6 +228,7 @@ impl Plan {
         requires { IsSome (call_of stage) }
         ensures ready { result.call ≡ call_of result.stage }
         ensures ends { EndsOpen self stage result.stage }
+        ensures ended { result.call ≡ None }
         ensures falls { left_of self result.stage < left_of self stage }
     {
         match stage {
@@ -247,6 +242,7 @@ impl Plan {
         requires { IsSomeAnd (call_of stage) (λ call. IsFit call input) }
         ensures ready { result.call ≡ call_of result.stage }
         ensures goes { IfSome (call_of stage) (λ call. FedTo self stage call input result.stage) }
+        ensures memory { input ≡ Fed.NoMemory → result.call ≡ None }
         ensures falls { left_of self result.stage < left_of self stage }
     {
         match input {

@@ -1,4 +1,4 @@
-// What a statement says of its commit and of the commits that won over it.
+//! What a statement says of its commit and of the commits that won over it.
 ghost use Rattle.std.specs.Prelude.{◌≡◌};
 
 use committer::{BodyFault, Judge, Verdict};

@@ -1,6 +1,5 @@
-// What a listing of the log says of the commits.
-ghost use Rattle.std.specs.Prelude.{◌≡◌, ◌≤◌, ◌<◌, ◌+◌, ◌^◌, ℕ, suc, Bool, List, length, IfOk};
-ghost use Rattle.edge_api.specs.declared.call.Listed.{Listed as AListed};
+//! What a listing of the log says of the commits.
+ghost use Rattle.std.specs.Prelude.{◌≡◌, ◌≤◌, ◌<◌, ◌+◌, ◌^◌, ℕ, suc, List, length, IfOk};
 ghost use Rattle.txn_machine.specs.Phases.{newest, missing, commit_version, later, is_listed};
 ghost use Rattle.txn_machine.specs.Listing.{Marks, mark_at};
 
@@ -30,7 +29,6 @@ fn later(first: Option<u64>, second: Option<u64>) -> Option<u64>
 }
 
 /// The greatest version that is listed.
-
 pub fn newest_version(listing: &[Listed]) -> Option<u64>
     ensures { result ≡ newest listing.now }
 {

@@ -1,37 +1,25 @@
-// A statement goes on with each answer.
-ghost use Rattle.std.specs.Prelude.{◌≡◌, ◌≢◌, ◌+◌, ◌*◌, ◌<◌, ◌≤◌, ◌^◌, ◌-◌, ℕ, suc, length, List, [], ◌∷◌, ◌++◌, ◌⊎◌, Option, IfOk, IfSome, IsSomeAnd, None, Some, OnErr, is_none};
-ghost use Rattle.std.specs.declared.result.Result.{Result as AResult};
+//! A statement goes on with each answer.
+ghost use Rattle.std.specs.Prelude.{◌≡◌, ◌≢◌, ◌+◌, ◌*◌, ◌<◌, ◌≤◌, ◌^◌, ◌-◌, ℕ, suc, length, List, [], ◌∷◌, ◌++◌, ◌⊎◌, Option, IfOk, IfSome, IsSomeAnd, None, Some};
 ghost use Rattle.edge_api.specs.declared.call.Call.TheVariants as call;
-ghost use Rattle.edge_api.specs.declared.call.Listed.{Listed as AListed};
 ghost use Rattle.edge_api.specs.Journal.{IsOfKind};
-ghost use Rattle.row_base.specs.declared.row.Datum.{Datum as ADatum};
 ghost use Rattle.op_types.specs.declared.reply.Reply.{Reply as AReply};
 ghost use Rattle.op_types.specs.declared.refusal.Refusal.TheVariants as refusal;
 ghost use Rattle.table_rules.specs.Names.{log_prefix, commit_text, data_text};
-ghost use Rattle.line_texts.specs.Texts.{text_of_add, text_of_rows, text_of_columns};
-ghost use Rattle.snapshot_replay.specs.Table.{no_table, paths_of};
+ghost use Rattle.line_texts.specs.Texts.{text_of_rows};
 ghost use Rattle.call_phases.specs.Phases.{Entries};
 ghost use Rattle.txn_machine.specs.Phases.{AtLoad, AtFiles, Cut, Ends, missing, newest};
-ghost use Rattle.txn_machine.specs.Answered.{AtLog, AtData, rows_of_files, Sorts, Selected, Selects, Appends, AfterLoad, AfterListing, Loads, Makes, AtCommit, committed, names_of, refusal_of, IsSelected};
-ghost use Rattle.edge_api.specs.Actor.{IsFit};
-ghost use Rattle.committer.specs.Machine as attempts;
-ghost use Rattle.committer.specs.Machine.{IsReady};
-ghost use Rattle.txn_machine.specs.Machine.{reply_after, landed_after, AtAttempting, FedTo, Rest, Follows, call_of, left_of, ahead_of, or_no_memory, first_get};
+ghost use Rattle.txn_machine.specs.Answered.{AtLog, AtData, rows_of_files, Sorts, Selected, Selects, Appends, AfterLoad, Loads};
+ghost use Rattle.txn_machine.specs.Machine.{Rest, Follows, call_of, left_of, ahead_of, or_no_memory, first_get};
 
-use crate::CommitJudge;
-use crate::listing::{missing_up_to, newest_version};
-use crate::stage::{Ahead, Attempting, DataPut, Files, Listing, Loading, Plan, Stage, Start};
+use crate::listing::missing_up_to;
+use crate::stage::{Ahead, DataPut, Files, Listing, Loading, Plan, Stage, Start};
 use crate::texts::{Unread, apply_commit, rows_of_file};
-use committer::{AttemptFault, Attempts, Landed};
-use edge_api::{Answer, Body, Call, CallKind, Called, Fed, Listed, Name};
-use line_texts::{write_add, write_columns, write_rows};
-use op_types::{
-    CheckpointOutcome, Clash, Feature, ObjectFault, Refusal, Reply, Statement, TableSpec,
-};
-use row_base::{Column, NoMemory, Row, Rows, ScannedFile, Text, cmp_rows, row_order_is_total};
+use edge_api::{Answer, Body, Call, CallKind, Called, Listed, Name};
+use line_texts::write_rows;
+use op_types::{Feature, Refusal, Reply, Statement};
+use row_base::{NoMemory, Row, Rows, ScannedFile, Text, cmp_rows, row_order_is_total};
 use snapshot_replay::State;
 use std::alloc::{AllocError, Global};
-use std::collections::VecDeque;
 use table_rules::{commit_name, data_file_name, log_prefix};
 
 /// The first version that isn't supported.
@@ -77,6 +65,7 @@ impl Ahead {
         }
     }
 
+    /// The statement ends with a refusal.
     pub fn refused(refusal: Refusal) -> Ahead
         ensures { result ≡ ahead_of (Stage.Done (Reply.Refused refusal)) }
     {
@@ -249,6 +238,7 @@ impl Plan {
 }
 
 impl Plan {
+    /// Goes on with the reading of the clock: the log is listed.
     pub fn fed_start(self, start: Start, answer: Answer) -> Ahead
         requires { IsOfKind call.Now answer }
         ensures ready { result.call ≡ call_of result.stage }
@@ -299,6 +289,7 @@ impl Plan {
         }
     }
 
+    /// Goes on with the body of a data file: the next one is got, or the reply is there.
     pub fn fed_files(self, mut files: Files, answer: Answer) -> Ahead
         requires { IsSomeAnd (first_get files.left.items) (λ call. IsOfKind call answer) }
         ensures ready { result.call ≡ call_of result.stage }
@@ -418,6 +409,7 @@ impl Plan {
         }
     }
 
+    /// Goes on with the body of a commit: it is applied to the table.
     pub fn fed_load(self, mut load: Loading, answer: Answer) -> Ahead
         requires { IsOfKind (call.Get (commit_text load.at)) answer }
         ensures ready { result.call ≡ call_of result.stage }

@@ -1,4 +1,4 @@
-// Where the actor of a statement stands.
+//! Where the actor of a statement stands.
 ghost use Rattle.std.specs.Prelude.{◌≡◌, IsSome};
 ghost use Rattle.txn_machine.specs.Machine.{call_of};
 ghost use Rattle.txn_machine.specs.Place.{place_of};

@@ -1,4 +1,4 @@
-// The rows of a table at a version, by the plainest reading of the texts, with no regard to time or to calls.
+//! The rows of a table at a version, by the plainest reading of the texts, with no regard to time or to calls.
 ghost use Rattle.std.specs.Prelude.{◌≡◌, IfOk, OnOk};
 ghost use Rattle.std.specs.List.{flat_map};
 ghost use Rattle.snapshot_replay.specs.Table.{applied, snapshot_at};

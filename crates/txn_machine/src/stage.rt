@@ -1,4 +1,4 @@
-// Where a statement stands, with its next call made ready.
+//! Where a statement stands, with its next call made ready.
 ghost use Rattle.std.specs.Prelude.{◌≡◌, ◌≢◌, ◌+◌, ◌<◌, ◌≤◌, ◌^◌, ℕ, []};
 ghost use Rattle.table_rules.specs.Names.{log_prefix, commit_text};
 

@@ -1,4 +1,4 @@
-// Statements driven call by call over a store in memory, with the calls and the replies worked out by hand.
+//! Statements driven call by call over a store in memory, with the calls and the replies worked out by hand.
 ghost use Rattle.std.specs.Prelude.{◌≡◌, IfOk};
 ghost use Rattle.edge_api.specs.Actor.{IsFit};
 ghost use Rattle.txn_machine.specs.Txn.{IsReady};

@@ -1,4 +1,4 @@
-// Commits and data files that were got.
+//! Commits and data files that were got.
 ghost use Rattle.std.specs.Prelude.{◌≡◌, ◌≤◌, suc, length, Some, IfOk, IfErr, OnOk, OnErr};
 ghost use Rattle.txn_machine.specs.Texts.{read_commit, commit_fault, read_file, file_fault};
 ghost use Rattle.txn_machine.specs.Reading.{Extends, IsUnread, unread_by};

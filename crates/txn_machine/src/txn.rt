@@ -1,5 +1,5 @@
-// A statement as an actor.
-ghost use Rattle.std.specs.Prelude.{◌≡◌, ◌<◌, ◌≤◌, ◌+◌, ◌*◌, ℕ, Option, IfOk, IfSome, IsSome, None, Some, [], ◌∷◌};
+//! A statement as an actor.
+ghost use Rattle.std.specs.Prelude.{◌≡◌, ◌<◌, ◌≤◌, ◌+◌, ◌*◌, Option, IfSome, None, Some, []};
 ghost use Rattle.op_types.specs.declared.reply.Reply.{Reply as AReply};
 ghost use Rattle.call_phases.specs.Phases.{Entries};
 ghost use Rattle.txn_machine.specs.Answered.{Answered};

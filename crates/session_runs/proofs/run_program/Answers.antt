@@ -3,7 +3,7 @@ use Rattle.std.specs.Prelude.{map, All}
 use Rattle.op_types.specs.declared.statement.Statement.TheVariants.{Table}
 use Rattle.session_runs.specs.Run.{IsPlain, Runs}
 use Rattle.session_runs.specs.Order.{FollowsItems}
-use Rattle.session_runs.proofs.Order.{seen, runs_seen, follows_seen, numbered_seen}
+use Rattle.session_runs.proofs.Order.{seen, start_seen, starts_seen, runs_seen, follows_seen}
 use Rattle.session_runs.proofs.Replies.{given, all_replied, all_ready, all_map, begin_long, length-map}
 use Rattle.actor_core.proofs.Faults.{counted_more}
 use Rattle.session_runs.proofs.Laws.{is_serial}
@@ -37,8 +37,8 @@ returns-clause-follows g c =
       first_end = seen c.run_piece.new.actor;
       others = map seen c.in_ok-others.others.items;
       others_end = map seen c.run_others.new.sessions.items;
-      first_number = (c.in_ok-first.ensures).number;
-      others_numbers = numbered_seen c.args.limit 1 (map (λ s. s.items) c.args.sessions.items) c.in_ok-others.others.items c.in_ok-others.ensures;
+      first_starts = start_seen c.args.limit 0 (Table c.args.table ∷ []) c.in_ok-first.first c.in_ok-first.ensures;
+      others_start = starts_seen c.args.limit 1 (map (λ s. s.items) c.args.sessions.items) c.in_ok-others.others.items c.in_ok-others.ensures;
       first_runs = runs_seen (j c.args.world.now) (j c.run_piece.new.world) c.in_ok-first.first c.run_piece.new.actor c.run_piece.ensures.runs;
       others_follow = follows_seen c.args.items.now (j c.run_piece.new.world) (j c.run_others.new.world) c.in_ok-others.others.items c.run_others.new.sessions.items c.run_others.ensures.follows;
     }

@@ -1,5 +1,6 @@
-use Rattle.std.proofs.Common.{rules, ◌≡◌, ◌<◌, refl, sym, ap, subst}
-use Rattle.std.specs.Prelude.{Option, IfSome}
+use Rattle.std.proofs.Common.{rules, ◌≡◌, ◌∙◌, ◌<◌, refl, sym, ap, subst}
+use Rattle.std.specs.Prelude.{Option, IfSome, None}
+use Rattle.edge_api.specs.declared.actor.Fed.TheVariants.{NoMemory}
 use Rattle.edge_api.specs.declared.call.Call.{Call}
 use Rattle.txn_machine.specs.declared.stage.Stage.{Stage}
 use Rattle.txn_machine.specs.declared.txn.Txn.{Txn}
@@ -19,4 +20,5 @@ returns-clause-fed c old tag call asks =
     let left : IsNothingLeft self.plan ahead.stage ahead.call = subst (λ (o : Option Call). IsNothingLeft self.plan ahead.stage o) (sym c.fed_by-ahead.ensures.ready) (nothing_left self.plan ahead.stage) in
     let ready : IsReady new = record { call = c.fed_by-ahead.ensures.ready; left = left } in
     let falls : left_of self.plan ahead.stage < left_of self.plan self.stage = subst (λ (s : Stage). left_of self.plan ahead.stage < left_of self.plan s) is c.fed_by-ahead.ensures.falls in
-    (fed_leads old self tag call c.args.answer new asks refl goes, search rules, ready)
+    let ended : c.args.answer ≡ NoMemory → call_of ahead.stage ≡ None = λ is. sym c.fed_by-ahead.ensures.ready ∙ c.fed_by-ahead.ensures.memory is in
+    (fed_leads old self tag call c.args.answer new asks refl goes ended, search rules, ready)
