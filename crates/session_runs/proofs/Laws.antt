@@ -83,11 +83,6 @@ answered_at actor limit k (st ∷ sts) part (r ∷ rs) (inr h) t is (suc j) at =
     let theirs : own t part ≡ own t h.1 = ap (own t) h.2 ∙ own-append t h.0 h.1 ∙ ap (λ (l : Entries). l ++ own t h.1) first in
     subst (λ (l : Entries). laws.IsAnsweredPart limit t None (slice_get sts j) l (slice_get rs j)) (sym theirs) (answered_at actor limit (k + 1) sts h.1 rs h.5 t is j (omega (arith, at)))
 
--- the two crates' lists of a statement's entries
-own_is : (t : Tag) (es : Entries) → laws.own t es ≡ own t es
-own_is t [] = refl
-own_is t (e ∷ es) = ap (λ (l : Entries). if same_tag t e.tag then e ∷ l else l) (own_is t es)
-
 counted_at : (actor limit : ℕ) (sts : List Statement) (part : Entries) (rs : List Reply) → AllAnswered false (plans_from actor limit 1 sts) part rs → (t : Tag) → t.actor ≡ actor → (n : ℕ) → t.statement ≡ n
     → laws.IsAnsweredPart limit t None (counted sts n) (own t part) (counted rs n)
 counted_at actor limit sts part rs h t is zero at = none_before actor limit 1 sts part rs h t (omega (arith, at))
@@ -113,7 +108,7 @@ module _ (limit : ℕ) (scripts : List (List Statement)) (part : Entries) (repli
 
   pub each_answered : laws.IsAnswered limit (statement_of scripts) (λ t. None) (reply_of replies) part
   each_answered t =
-      subst (λ (l : Entries). laws.IsAnsweredPart limit t None (statement_of scripts t) l (reply_of replies t)) (sym (own_is t part ∙ own_among t part))
+      subst (λ (l : Entries). laws.IsAnsweredPart limit t None (statement_of scripts t) l (reply_of replies t)) (sym (own_among t part))
       (by_actor t (slice_get scripts t.actor) refl (slice_get replies t.actor) refl)
 
 -- where a tag's statement stands

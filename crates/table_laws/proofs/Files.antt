@@ -5,10 +5,11 @@ use Rattle.std.specs.Str.{bytes_eq}
 use Rattle.std.proofs.lemmas.Slice.Eq.{bytes_eq-Decides}
 use Rattle.std.specs.Ordering.{is_lt, nat_cmp}
 use Rattle.std.specs.Cmp.Lexicographic.{slice_cmp}
+use Rattle.row_base.specs.Bags.{count_of}
+use Rattle.row_base.proofs.Bags.{count_of-append}
 use Rattle.snapshot_replay.specs.Table.{Add, without_path, placed, reconciled}
-use Rattle.table_laws.specs.Bags.{Row, count_of}
+use Rattle.table_laws.specs.Rows.{Row}
 use Rattle.table_laws.specs.Files.{rows_under, adds_lines, lines_of, rows_in, has_path}
-use Rattle.table_laws.proofs.Bags.{count_of-append}
 
 -- how often a path is there
 abbrev pub times : List ℕ → List Add → ℕ

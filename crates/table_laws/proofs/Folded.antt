@@ -1,26 +1,26 @@
 -- Versions that are serial at the stricter level are a fold of their operations.
-use Rattle.std.proofs.Common.{◌≡◌, ℕ, zero, suc, Bool, true, false, not, List, [], ◌++◌, refl, sym, ◌∙◌, ap, arith}
+use Rattle.std.proofs.Common.{◌≡◌, ℕ, zero, suc, Bool, not, List, [], ◌++◌, refl, sym, ◌∙◌, ap, arith}
 use Rattle.std.specs.Prelude.{Option, Some}
+use Rattle.std.specs.List.{filter}
 use Rattle.edge_api.specs.declared.call.Tag.{Tag}
 use Rattle.edge_api.specs.Journal.{Moment}
+use Rattle.row_base.specs.RowOrder.{row_eq}
+use Rattle.row_base.specs.Bags.{count_of, SameRows, without, others}
+use Rattle.row_base.proofs.Bags.{SameBag-filter, count_of-append, count_of-without}
+use Rattle.row_base.proofs.RowOrder.{row_decides}
 use Rattle.op_types.specs.declared.statement.Statement.{Statement}
 use Rattle.table_rules.specs.Names.{commit_text}
-use Rattle.table_laws.specs.Bags.{Row, count_of, SameRows, without, only, others}
+use Rattle.table_laws.specs.Rows.{Row}
 use Rattle.table_laws.specs.Operations.{Operation, Insert, Change, Compact, operation_of, scope_of, result_of, operated}
 use Rattle.table_laws.specs.Conflicts.{Serializable}
 use Rattle.table_laws.specs.Serial.{missed}
 use Rattle.table_laws.specs.History.{Put, history, put_under, rows_at}
 use Rattle.table_laws.specs.Laws.{statement_of, operation_by, VersionsAreSerial, FirstIsEmpty}
 use Rattle.table_laws.specs.Folded.{done_by, folded, RowsAreFolded, EachVersionIsFolded}
-use Rattle.table_laws.proofs.Bags.{count_of-append, count_of-only, count_of-only-no, count_of-without}
 use Rattle.table_laws.proofs.Serial.{each_version_is_serial, first_version_is_empty}
 
-same_only : (p : Row → Bool) (xs ys : List Row) → SameRows xs ys → SameRows (only p xs) (only p ys)
-same_only p xs ys same x = by (p x) refl
-  where
-    by : (b : Bool) → p x ≡ b → count_of x (only p xs) ≡ count_of x (only p ys)
-    by true e = count_of-only p x xs e ∙ same x ∙ sym (count_of-only p x ys e)
-    by false e = count_of-only-no p x xs e ∙ sym (count_of-only-no p x ys e)
+same_filter : (p : Row → Bool) (xs ys : List Row) → SameRows xs ys → SameRows (filter p xs) (filter p ys)
+same_filter = SameBag-filter row_eq row_decides
 
 same_result : (op : Operation) (xs ys : List Row) → SameRows xs ys → SameRows (result_of op xs) (result_of op ys)
 same_result (Insert rows) xs ys same = λ x. refl
@@ -30,10 +30,10 @@ same_result (Compact pick) xs ys same = λ x. refl
 -- an operation looks at the bag alone
 same_operated : (op : Operation) (xs ys : List Row) → SameRows xs ys → SameRows (operated op xs) (operated op ys)
 same_operated op xs ys same x =
-    let a = count_of-append x (others (scope_of op) xs) (result_of op (only (scope_of op) xs)) in
-    let b = count_of-append x (others (scope_of op) ys) (result_of op (only (scope_of op) ys)) in
-    let c = same_only (λ (y : Row). not (scope_of op y)) xs ys same x in
-    let d = same_result op (only (scope_of op) xs) (only (scope_of op) ys) (same_only (scope_of op) xs ys same) x in
+    let a = count_of-append x (others (scope_of op) xs) (result_of op (filter (scope_of op) xs)) in
+    let b = count_of-append x (others (scope_of op) ys) (result_of op (filter (scope_of op) ys)) in
+    let c = same_filter (λ (y : Row). not (scope_of op y)) xs ys same x in
+    let d = same_result op (filter (scope_of op) xs) (filter (scope_of op) ys) (same_filter (scope_of op) xs ys same) x in
     omega arith
 
 -- where no row is missed, the operation is done on all

@@ -24,18 +24,20 @@ use Rattle.snapshot_replay.specs.Table.{Snapshot}
 use Rattle.call_phases.specs.Phases.{Entries}
 use Rattle.txn_machine.specs.Texts.{read_commit}
 use Rattle.txn_machine.specs.Answered.{names_of}
-use Rattle.table_laws.specs.Bags.{Row}
+use Rattle.actor_core.specs.Entries.{same_tag, own}
+use Rattle.actor_core.proofs.Owners.{same_tag-refl, same_tag_is}
+use Rattle.table_laws.specs.Rows.{Row}
 use Rattle.table_laws.specs.Operations.{Operation, operation_of}
 use Rattle.table_laws.specs.Effects as effects
 use Rattle.table_laws.specs.Conflicts.{Level}
 use Rattle.table_laws.specs.History.{Put, put_under, body_of, put_if_free, puts_of, if_done, puts_at, history}
-use Rattle.table_laws.specs.Runs.{same_tag, own, or_first, listed_by, told_by, version_put, with_version, versions_put, first_given, GotIn, StoredIn}
+use Rattle.table_laws.specs.Runs.{or_first, listed_by, told_by, version_put, with_version, versions_put, first_given, GotIn, StoredIn}
 use Rattle.table_laws.proofs.Lawful.{Known, PutIn, NoPut, FoundMissing, first_past, Knows, versions_down, IsCommitOf, MayPut, IsFile, IsTable, IsCommit, LawfulBy, AllLawful}
 use Rattle.table_laws.proofs.Known.{knows_more}
 use Rattle.table_laws.proofs.Phases.{same_put}
 use Rattle.table_laws.proofs.Statements.{commit_put, data_put}
 use Rattle.table_laws.proofs.Names.{same_file}
-use Rattle.table_laws.proofs.Puts.{or_else, body_at, put_under-push, object_at-with, same_tag-refl, same_tag-is}
+use Rattle.table_laws.proofs.Puts.{or_else, body_at, put_under-push, object_at-with}
 
 -- the entries, the newest first
 abbrev pub backwards : Entries → Entries → Entries
@@ -82,7 +84,7 @@ stored_now : (t : Tag) (e : JournalEntry) (past : Entries) (n b : List ℕ) → 
 stored_now t e past n b h = by (same_tag t e.tag) refl h
   where
     by : (c : Bool) → same_tag t e.tag ≡ c → StoredIn (if c then e ∷ own t past else own t past) n b → ((e.tag ≡ t) × (e.call ≡ PutNew n b) × (e.answer ≡ Stored)) ⊎ StoredIn (own t past) n b
-    by true is (inl here) = inl (sym (same_tag-is t e.tag is), here.0, here.1)
+    by true is (inl here) = inl (sym (same_tag_is t e.tag is), here.0, here.1)
     by true is (inr there) = inr there
     by false is there = inr there
 
@@ -104,7 +106,7 @@ missing_now t e past n h = by (same_tag t e.tag) refl h
     other is same = let bad : true ≡ false = sym (same_tag-refl t) ∙ ap (λ (u : Tag). same_tag t u) (sym same) ∙ is in cc
 
     by : (c : Bool) → same_tag t e.tag ≡ c → FoundMissing (if c then e ∷ own t past else own t past) n → ((e.tag ≡ t) × (e.call ≡ Get n) × (e.answer ≡ Missing)) ⊎ ((e.tag ≡ t → ⊥) × FoundMissing (own t past) n)
-    by true is here = inl (sym (same_tag-is t e.tag is), here.0, here.1)
+    by true is here = inl (sym (same_tag_is t e.tag is), here.0, here.1)
     by false is there = inr (other is, there)
 
 -- a statement's puts of commits, after an entry that is none of them
@@ -112,7 +114,7 @@ none_more : (t : Tag) (e : JournalEntry) (past : Entries) → (e.tag ≡ t → v
 none_more t e past none = by (same_tag t e.tag) refl
   where
     by : (c : Bool) → same_tag t e.tag ≡ c → versions_put (if c then e ∷ own t past else own t past) ≡ versions_put (own t past)
-    by true is = ap (λ (o : Option ℕ). with_version o (versions_put (own t past))) (none (sym (same_tag-is t e.tag is)))
+    by true is = ap (λ (o : Option ℕ). with_version o (versions_put (own t past))) (none (sym (same_tag_is t e.tag is)))
     by false is = refl
 
 -- after one of them

@@ -5,7 +5,7 @@ use Rattle.edge_api.specs.declared.call.Tag.{Tag}
 use Rattle.row_base.specs.declared.row.ScannedFile.{ScannedFile}
 use Rattle.snapshot_replay.specs.Table.{Commit, Snapshot}
 use Rattle.txn_machine.specs.Texts.{read_file}
-use Rattle.table_laws.specs.Bags.{Row}
+use Rattle.table_laws.specs.Rows.{Row}
 use Rattle.table_laws.specs.Operations.{Operation}
 use Rattle.table_laws.specs.Conflicts.{Level, FileClash}
 use Rattle.table_laws.specs.Runs.{LoadedTo}

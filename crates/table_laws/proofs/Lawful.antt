@@ -19,7 +19,7 @@ use Rattle.snapshot_replay.specs.Table.{Add, Commit, Snapshot, paths_of}
 use Rattle.call_phases.specs.Phases.{Entries}
 use Rattle.txn_machine.specs.Texts.{read_commit, read_file}
 use Rattle.txn_machine.specs.Answered.{names_of, rows_of_files, Sorts}
-use Rattle.table_laws.specs.Bags.{Row}
+use Rattle.table_laws.specs.Rows.{Row}
 use Rattle.table_laws.specs.Operations.{Operation, operation_of, scope_of, got_files, removed_files}
 use Rattle.table_laws.specs.Effects.{may_match, new_rows, effect_of}
 use Rattle.table_laws.specs.Conflicts.{Level, FileClash, first_clash}

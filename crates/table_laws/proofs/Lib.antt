@@ -1,4 +1,3 @@
-pub mod Bags
 pub mod Files
 pub mod Live
 pub mod Winners

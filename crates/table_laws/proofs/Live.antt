@@ -3,8 +3,10 @@ use Rattle.std.proofs.Common.{◌≡◌, ℕ, zero, suc, ◌≤◌, Bool, true, 
 use Rattle.std.specs.Prelude.{Option, Some, None, if◌then◌else◌}
 use Rattle.std.specs.Str.{bytes_eq}
 use Rattle.std.proofs.lemmas.Slice.Eq.{bytes_eq-Decides}
+use Rattle.std.specs.List.{filter}
+use Rattle.row_base.specs.Bags.{count_of}
 use Rattle.snapshot_replay.specs.Table.{Add, Action, Removes, Adds, Commit, without_path, placed, reconciled, paths_of}
-use Rattle.table_laws.specs.Bags.{Row, count_of, only}
+use Rattle.table_laws.specs.Rows.{Row}
 use Rattle.table_laws.specs.Files.{live_by, removes_lines, rows_in, has_path}
 use Rattle.table_laws.specs.Conflicts.{first_removed, first_match}
 use Rattle.table_laws.proofs.Files.{times, is_one, times-cons, times-placed, self_path, times-without_same, times-without_other, AllOnce, in-cons}
@@ -70,39 +72,39 @@ has_cons : (p q : List ℕ) (ps : List (List ℕ)) (b : Bool) → bytes_eq q p �
 has_cons p q ps b e = ap (λ (c : Bool). if c then true else has_path ps p) e
 
 -- what is picked of files is of these
-pub picked_there : (t : Add → Bool) (fs : List Add) (p : List ℕ) → has_path (paths_of (only t fs)) p ≡ true → 1 ≤ times p fs
+pub picked_there : (t : Add → Bool) (fs : List Add) (p : List ℕ) → has_path (paths_of (filter t fs)) p ≡ true → 1 ≤ times p fs
 picked_there t [] p has = let bad : true ≡ false = sym has in cc
 picked_there t (a ∷ fs) p has = by (t a) has (picked_there t fs p)
   where
-    more : (has_path (paths_of (only t fs)) p ≡ true → 1 ≤ times p fs) → has_path (paths_of (only t fs)) p ≡ true → 1 ≤ times p (a ∷ fs)
+    more : (has_path (paths_of (filter t fs)) p ≡ true → 1 ≤ times p fs) → has_path (paths_of (filter t fs)) p ≡ true → 1 ≤ times p (a ∷ fs)
     more rest h = let r = rest h in let s = times-cons p a fs in omega arith
 
-    by : (b : Bool) → has_path (paths_of (if b then a ∷ only t fs else only t fs)) p ≡ true → (has_path (paths_of (only t fs)) p ≡ true → 1 ≤ times p fs) → 1 ≤ times p (a ∷ fs)
+    by : (b : Bool) → has_path (paths_of (if b then a ∷ filter t fs else filter t fs)) p ≡ true → (has_path (paths_of (filter t fs)) p ≡ true → 1 ≤ times p fs) → 1 ≤ times p (a ∷ fs)
     by false h rest = more rest h
     by true h rest = here (bytes_eq a.path p) refl h
       where
-        here : (c : Bool) → bytes_eq a.path p ≡ c → (if c then true else has_path (paths_of (only t fs)) p) ≡ true → 1 ≤ times p (a ∷ fs)
+        here : (c : Bool) → bytes_eq a.path p ≡ c → (if c then true else has_path (paths_of (filter t fs)) p) ≡ true → 1 ≤ times p (a ∷ fs)
         here false e h = more rest h
         here true e h = let one : is_one p a ≡ 1 = is_one_is p a true e in let s = times-cons p a fs in omega arith
 
-gone : (p : List ℕ) (t : Add → Bool) (fs : List Add) → times p fs ≡ 0 → (b : Bool) → has_path (paths_of (only t fs)) p ≡ b → b ≡ false
+gone : (p : List ℕ) (t : Add → Bool) (fs : List Add) → times p fs ≡ 0 → (b : Bool) → has_path (paths_of (filter t fs)) p ≡ b → b ≡ false
 gone p t fs none false e = refl
 gone p t fs none true e = let le = picked_there t fs p e in absurd (omega arith)
 
 -- what is picked of files with each path once has each path once, wherever each path is once
-pub picked_once : (t : Add → Bool) (fs gs : List Add) → ((p : List ℕ) → times p fs ≤ 1) → ((p : List ℕ) → has_path (paths_of (only t fs)) p ≡ true → times p gs ≡ 1) → AllOnce (paths_of (only t fs)) gs
+pub picked_once : (t : Add → Bool) (fs gs : List Add) → ((p : List ℕ) → times p fs ≤ 1) → ((p : List ℕ) → has_path (paths_of (filter t fs)) p ≡ true → times p gs ≡ 1) → AllOnce (paths_of (filter t fs)) gs
 picked_once t [] gs most here = tt
 picked_once t (a ∷ fs) gs most here = by (t a) here (picked_once t fs gs rest_most)
   where
     rest_most : (p : List ℕ) → times p fs ≤ 1
     rest_most p = let le = most p in let s = times-cons p a fs in omega arith
 
-    by : (b : Bool) → ((p : List ℕ) → has_path (paths_of (if b then a ∷ only t fs else only t fs)) p ≡ true → times p gs ≡ 1)
-        → (((p : List ℕ) → has_path (paths_of (only t fs)) p ≡ true → times p gs ≡ 1) → AllOnce (paths_of (only t fs)) gs) → AllOnce (paths_of (if b then a ∷ only t fs else only t fs)) gs
+    by : (b : Bool) → ((p : List ℕ) → has_path (paths_of (if b then a ∷ filter t fs else filter t fs)) p ≡ true → times p gs ≡ 1)
+        → (((p : List ℕ) → has_path (paths_of (filter t fs)) p ≡ true → times p gs ≡ 1) → AllOnce (paths_of (filter t fs)) gs) → AllOnce (paths_of (if b then a ∷ filter t fs else filter t fs)) gs
     by false h rest = rest h
     by true h rest = (
-      h a.path (has_cons a.path a.path (paths_of (only t fs)) true (self_path a.path)),
-      gone a.path t fs none (has_path (paths_of (only t fs)) a.path) refl,
+      h a.path (has_cons a.path a.path (paths_of (filter t fs)) true (self_path a.path)),
+      gone a.path t fs none (has_path (paths_of (filter t fs)) a.path) refl,
       rest (λ p has. h p (later p has (bytes_eq a.path p))),
     )
       where
@@ -113,7 +115,7 @@ picked_once t (a ∷ fs) gs most here = by (t a) here (picked_once t fs gs rest_
             let s = times-cons a.path a fs in
             omega arith
 
-        later : (p : List ℕ) → has_path (paths_of (only t fs)) p ≡ true → (c : Bool) → (if c then true else has_path (paths_of (only t fs)) p) ≡ true
+        later : (p : List ℕ) → has_path (paths_of (filter t fs)) p ≡ true → (c : Bool) → (if c then true else has_path (paths_of (filter t fs)) p) ≡ true
         later p has true = refl
         later p has false = has
 
@@ -123,12 +125,12 @@ module _ (rows : List ℕ → List Row) (x : Row) (t : Add → Bool) where
   NoneLeftOut [] = Unit {0}
   NoneLeftOut (a ∷ fs) = (t a ≡ false → count_of x (rows a.path) ≡ 0) × NoneLeftOut fs
 
-  pub picked_rows : (fs : List Add) → NoneLeftOut fs → count_of x (rows_in rows (only t fs)) ≡ count_of x (rows_in rows fs)
+  pub picked_rows : (fs : List Add) → NoneLeftOut fs → count_of x (rows_in rows (filter t fs)) ≡ count_of x (rows_in rows fs)
   picked_rows [] all = refl
   picked_rows (a ∷ fs) all = by (t a) refl (picked_rows fs all.1)
     where
-      by : (b : Bool) → t a ≡ b → count_of x (rows_in rows (only t fs)) ≡ count_of x (rows_in rows fs) → count_of x (rows_in rows (if b then a ∷ only t fs else only t fs)) ≡ count_of x (rows_in rows (a ∷ fs))
-      by true e rest = let l = in-cons rows x a fs in let m = in-cons rows x a (only t fs) in omega arith
+      by : (b : Bool) → t a ≡ b → count_of x (rows_in rows (filter t fs)) ≡ count_of x (rows_in rows fs) → count_of x (rows_in rows (if b then a ∷ filter t fs else filter t fs)) ≡ count_of x (rows_in rows (a ∷ fs))
+      by true e rest = let l = in-cons rows x a fs in let m = in-cons rows x a (filter t fs) in omega arith
       by false e rest = let l = in-cons rows x a fs in let m = all.0 e in omega arith
 
 pub first_match-removes : (may : List ℕ → Bool) (ps : List (List ℕ)) (ls : List Action) → first_match may (removes_lines ps ls) ≡ first_match may ls

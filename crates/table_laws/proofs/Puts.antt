@@ -1,5 +1,5 @@
 -- The puts that took effect, and the objects that they leave.
-use Rattle.std.proofs.Common.{◌≡◌, ℕ, ◌&&◌, ◌==◌, Bool, true, false, List, [], ◌∷◌, ◌++◌, refl, sym, ◌∙◌, ap, subst, arith}
+use Rattle.std.proofs.Common.{◌≡◌, ℕ, Bool, true, false, List, [], ◌∷◌, ◌++◌, refl, sym, ◌∙◌, ap, subst}
 use Rattle.std.specs.Prelude.{Option, Some, None, if◌then◌else◌}
 use Rattle.std.specs.Str.{bytes_eq}
 use Rattle.std.specs.Ordering.{nat_cmp, match_ordering, is_eq}
@@ -9,13 +9,9 @@ use Rattle.std.specs.Cmp.Lexicographic.{slice_cmp}
 use Rattle.std.proofs.lemmas.Cmp.{nat_list_eq_equiv}
 use Rattle.std.proofs.lemmas.Map.Text.{is_eq-slice_cmp}
 use Rattle.std.proofs.lemmas.Slice.Eq.{bytes_eq-Decides}
-use Rattle.std.proofs.lemmas.Bool.Decides.{nat_tests}
-use Rattle.std.proofs.lemmas.Bool.{false≢true}
-use Rattle.edge_api.specs.declared.call.Tag.{Tag}
 use Rattle.edge_api.specs.declared.call.Object.{Object}
 use Rattle.edge_api.specs.Journal.{Objects, object_at, with_object}
 use Rattle.table_laws.specs.History.{Put, put_under}
-use Rattle.table_laws.specs.Runs.{same_tag}
 
 abbrev pub or_else : {A : Type 0} → Option A → Option A → Option A
 or_else None y = y
@@ -56,20 +52,3 @@ object_at-with (x ∷ os) name o n free = by (slice_cmp nat_cmp name x.0) refl (
     by Equal e rest = let bad : true ≡ false = sym (equal_is name x.0 e) ∙ (none_rest (bytes_eq x.0 name) x.1 (object_at os name) free).0 in cc
     by Greater e rest =
         elim (bytes_eq x.0 n) as (λ b. (if b then Some x.1 else object_at (with_object os name o) n) ≡ or_else (if b then Some x.1 else object_at os n) (object_at ((name, o) ∷ []) n)) [ true ↦ refl | false ↦ rest ]
-
-pub same_tag-refl : (t : Tag) → same_tag t t ≡ true
-same_tag-refl t = grind (arith, nat_tests)
-
-both_true : (a b : Bool) → (a && b) ≡ true → (a ≡ true) × (b ≡ true)
-both_true true b h = (refl, h)
-both_true false b h = absurd (false≢true h)
-
-eqb_is : (a b : ℕ) → (a == b) ≡ true → a ≡ b
-eqb_is a b h = grind (arith, nat_tests)
-
-pub same_tag-is : (a b : Tag) → same_tag a b ≡ true → a ≡ b
-same_tag-is a b h =
-    let p = both_true (a.actor == b.actor) (a.statement == b.statement) h in
-    let x = eqb_is a.actor b.actor p.0 in
-    let y = eqb_is a.statement b.statement p.1 in
-    λ i. record { actor = x i; statement = y i }

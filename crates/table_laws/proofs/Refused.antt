@@ -12,9 +12,10 @@ use Rattle.op_types.specs.declared.reply.Reply.TheVariants.{Refused}
 use Rattle.table_rules.specs.Names.{commit_text}
 use Rattle.table_rules.specs.Told.{IsTag}
 use Rattle.call_phases.specs.Phases.{Entries}
+use Rattle.actor_core.specs.Entries.{same_tag, own}
 use Rattle.table_laws.specs.Conflicts.{Level, Serializable}
 use Rattle.table_laws.specs.History.{Put, history, put_under, body_of}
-use Rattle.table_laws.specs.Runs.{same_tag, own, SessionKnows}
+use Rattle.table_laws.specs.Runs.{SessionKnows}
 use Rattle.table_laws.specs.Refused.{IsUnknown, FaultedIn, EachRefusalCommitsNothing}
 use Rattle.table_laws.proofs.Lawful.{PutIn, ClaimsNothing}
 use Rattle.table_laws.proofs.Journals.{Stands, backwards, own_got, some_same}

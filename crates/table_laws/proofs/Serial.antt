@@ -6,6 +6,8 @@ use Rattle.std.proofs.lemmas.Slice.Eq.{bytes_eq-Decides}
 use Rattle.edge_api.specs.declared.call.Tag.{Tag}
 use Rattle.edge_api.specs.Journal.{Objects, Moment, IsLegal, entries_of}
 use Rattle.row_base.specs.declared.row.ScannedFile.{ScannedFile}
+use Rattle.row_base.specs.Bags.{count_of}
+use Rattle.row_base.proofs.Bags.{count_of-append}
 use Rattle.op_types.specs.declared.statement.Statement.{Statement}
 use Rattle.op_types.specs.declared.statement.Statement.TheVariants.{Table}
 use Rattle.op_types.specs.declared.statement.TableSpec.{TableSpec}
@@ -19,15 +21,15 @@ use Rattle.call_phases.specs.Phases.{Entries}
 use Rattle.txn_machine.specs.Texts.{read_commit}
 use Rattle.txn_machine.specs.Answered.{Kept, Sorts, rows_of_files}
 use Rattle.txn_machine.proofs.OpenEnds.{length-paths_of}
-use Rattle.table_laws.specs.Bags.{Row, count_of}
+use Rattle.actor_core.specs.Entries.{own}
+use Rattle.table_laws.specs.Rows.{Row}
 use Rattle.table_laws.specs.Operations.{Operation, operation_of, inserted, got_files, removed_files}
 use Rattle.table_laws.specs.Files.{live_by, rows_in, rows_under, lines_of}
 use Rattle.table_laws.specs.Effects.{may_match, new_rows, new_file, effect_of}
 use Rattle.table_laws.specs.Conflicts.{Level, Serializable}
 use Rattle.table_laws.specs.History.{Put, put_under, body_of, or_nothing, commit_at, rows_of, history, IsCommitted}
-use Rattle.table_laws.specs.Runs.{own, listed_by, GotIn, StoredIn, SessionKnows, IsAnsweredPart, IsRun}
+use Rattle.table_laws.specs.Runs.{listed_by, GotIn, StoredIn, SessionKnows, IsAnsweredPart, IsRun}
 use Rattle.table_laws.specs.Laws.{statement_of, operation_by, inserted_by, appended, Step, versions_from, IsWonBefore, Lands, HasCommitted, HasRead, EachVersionIsSerial, FirstVersionIsEmpty, EachStatementCommitsOnce, EachCommitLands, EachReplyCommitted, EachReplyRead}
-use Rattle.table_laws.proofs.Bags.{count_of-append}
 use Rattle.table_laws.proofs.Files.{times, is_one, times-placed, times-without_other, times-without_same}
 use Rattle.table_laws.proofs.Winners.{Landed, serial}
 use Rattle.table_laws.proofs.Lawful.{Known, AllGot, AllScanned, Knows, ClaimsCommit, ClaimsRows, ClaimOf, judge_of}

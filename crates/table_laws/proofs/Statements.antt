@@ -30,7 +30,7 @@ use Rattle.txn_machine.specs.Judging.{verdict_of}
 use Rattle.txn_machine.specs.Phases.{IsCutShort, Ends, Cut, commit_of, newest, missing, AtLoad, AtFiles}
 use Rattle.txn_machine.specs.Texts.{read_commit, read_file}
 use Rattle.txn_machine.specs.Answered.{Kept, retention, version_limit, IsSelected, IsReplied, load_from, load_count, load_base, names_of, AtCommit, committed, Appends, Selects, AfterLoad, Loads, Makes, AfterListing, Answered}
-use Rattle.table_laws.specs.Bags.{Row}
+use Rattle.table_laws.specs.Rows.{Row}
 use Rattle.table_laws.specs.Operations.{Operation, operation_of}
 use Rattle.table_laws.specs.Operations as operations
 use Rattle.table_laws.specs.Effects.{effect_of}

@@ -8,7 +8,7 @@ use Rattle.line_texts.specs.Texts.{columns_of_text, path_of_text, text_of_add}
 use Rattle.line_texts.proofs.Laws.{path_reads_back}
 use Rattle.snapshot_replay.specs.Table.{Add, table_commit, append_commit}
 use Rattle.txn_machine.specs.Texts.{read_commit}
-use Rattle.table_laws.specs.Bags.{Row}
+use Rattle.table_laws.specs.Rows.{Row}
 use Rattle.table_laws.specs.Operations.{Insert}
 use Rattle.table_laws.specs.Effects.{effect_of}
 use Rattle.table_laws.proofs.Paths.{data_is_path}

@@ -5,8 +5,9 @@ use Rattle.std.specs.Prelude.{Option, Some, None, if◌then◌else◌}
 use Rattle.std.specs.Str.{bytes_eq}
 use Rattle.edge_api.specs.declared.call.Tag.{Tag}
 use Rattle.call_phases.specs.Phases.{Entries}
+use Rattle.actor_core.specs.Entries.{same_tag, own}
 use Rattle.table_laws.specs.History.{Put, put_under}
-use Rattle.table_laws.specs.Runs.{same_tag, own, version_put, with_version, versions_put}
+use Rattle.table_laws.specs.Runs.{version_put, with_version, versions_put}
 use Rattle.table_laws.specs.Laws.{versions_from}
 use Rattle.table_laws.proofs.Lawful.{versions_down}
 use Rattle.table_laws.proofs.Journals.{backwards}

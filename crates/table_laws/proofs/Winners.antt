@@ -3,13 +3,15 @@ use Rattle.std.proofs.Common.{◌≡◌, ◌⊎◌, inl, inr, ℕ, zero, suc, �
 use Rattle.std.specs.Prelude.{Option, Some, None, if◌then◌else◌, ◌&&◌, nat_lt}
 use Rattle.std.specs.Str.{bytes_eq}
 use Rattle.std.proofs.lemmas.Bool.Decides.{nat_tests}
+use Rattle.std.specs.List.{filter}
+use Rattle.row_base.specs.Bags.{count_of, SameRows, IsContained, without, others}
+use Rattle.row_base.proofs.Bags.{count_of-append, count_of-filter, count_of-filter_no, count_of-others, count_of-others_no, count_of-without}
 use Rattle.snapshot_replay.specs.Table.{Add, Action, Commit, without_path, placed, reconciled, paths_of}
-use Rattle.table_laws.specs.Bags.{Row, count_of, SameRows, IsContained, without, only, others}
+use Rattle.table_laws.specs.Rows.{Row}
 use Rattle.table_laws.specs.Operations.{Operation, Insert, Change, Compact, Respects, scope_of, result_of, operated, is_insert, is_change, is_compaction, inserted, any_row, got_files, removed_files}
 use Rattle.table_laws.specs.Files.{live_by, adds_lines, lines_of, rows_in, has_path}
 use Rattle.table_laws.specs.Conflicts.{Level, Serializable, WriteSerializable, FileClash, Append, DeleteRead, DeleteDelete, first_match, first_removed, no_removes, is_blind_append, counts_at, clash_if, where_true, first_clash}
 use Rattle.table_laws.specs.Serial.{between, MissedFits, missed, SerialStep}
-use Rattle.table_laws.proofs.Bags.{count_of-append, count_of-only, count_of-only-no, count_of-others, count_of-others-no, count_of-without}
 use Rattle.table_laws.proofs.Files.{times, is_before, AllOnce, AllNew, commit_counts, rows_there, in-cons}
 use Rattle.table_laws.proofs.Live.{live_once, stays_once, picked_there, picked_once, NoneLeftOut, picked_rows, first_match-removes}
 
@@ -39,8 +41,8 @@ module _ (may : (Row → Bool) → List ℕ → Bool) (commits : ℕ → Commit)
     pub blind : (commits (suc v)).blind ≡ is_insert op
     pub changes : (commits (suc v)).changes ≡ not (is_compaction op)
     -- the new rows and the scope's old ones are the removed files' rows and the scope's new ones
-    pub balance : (x : Row) → count_of x (rows_in rows added) + count_of x (only (scope_of op) (rows_in rows (got_files may op (live_by commits read))))
-        ≡ count_of x (rows_in rows (removed_files rows may op (live_by commits read))) + count_of x (result_of op (only (scope_of op) (rows_in rows (got_files may op (live_by commits read)))))
+    pub balance : (x : Row) → count_of x (rows_in rows added) + count_of x (filter (scope_of op) (rows_in rows (got_files may op (live_by commits read))))
+        ≡ count_of x (rows_in rows (removed_files rows may op (live_by commits read))) + count_of x (result_of op (filter (scope_of op) (rows_in rows (got_files may op (live_by commits read)))))
     pub new : AllNew added (live_by commits v)
     pub holds : AllHold added
     -- no version between clashes
@@ -93,7 +95,7 @@ module _ (may : (Row → Bool) → List ℕ → Bool) (commits : ℕ → Commit)
         first true e = inl (grind (arith, nat_tests))
         first false e = inr (grind (arith, nat_tests))
 
-    at_read : (t : Add → Bool) (p : List ℕ) → has_path (paths_of (only t (live l.read))) p ≡ true → times p (live l.read) ≡ 1
+    at_read : (t : Add → Bool) (p : List ℕ) → has_path (paths_of (filter t (live l.read))) p ≡ true → times p (live l.read) ≡ 1
     at_read t p has = let some = picked_there t (live l.read) p has in let most = live_once commits l.read p in omega arith
 
     -- of a verdict: no file removed is removed by a winner
@@ -121,21 +123,21 @@ module _ (may : (Row → Bool) → List ℕ → Bool) (commits : ℕ → Commit)
     once_of (Change P g r) clear =
         let t : Add → Bool = λ a. may P a.stats && any_row P (rows a.path) in
         picked_once t (live l.read) (live v) (live_once commits l.read)
-        (λ p has. stays (paths_of (only t (live l.read))) (at_read t)
-        (λ k from to. removed_clear (Change P g r) k (paths_of (only (λ a. may P a.stats) (live l.read))) (paths_of (only t (live l.read))) refl (λ stats. may P stats) (clear k from to)) p has v l.below (omega arith))
+        (λ p has. stays (paths_of (filter t (live l.read))) (at_read t)
+        (λ k from to. removed_clear (Change P g r) k (paths_of (filter (λ a. may P a.stats) (live l.read))) (paths_of (filter t (live l.read))) refl (λ stats. may P stats) (clear k from to)) p has v l.below (omega arith))
     once_of (Compact pick) clear =
         let t : Add → Bool = pick (live l.read) in
         picked_once t (live l.read) (live v) (live_once commits l.read)
-        (λ p has. stays (paths_of (only t (live l.read))) (at_read t)
-        (λ k from to. removed_clear (Compact pick) k (paths_of (only t (live l.read))) (paths_of (only t (live l.read))) refl (λ stats. false) (clear k from to)) p has v l.below (omega arith))
+        (λ p has. stays (paths_of (filter t (live l.read))) (at_read t)
+        (λ k from to. removed_clear (Compact pick) k (paths_of (filter t (live l.read))) (paths_of (filter t (live l.read))) refl (λ stats. false) (clear k from to)) p has v l.below (omega arith))
 
-    got_once : (P : Row → Bool) (g : List Row → List Row) (r : Respects g) → ClearFor (Change P g r) → AllOnce (paths_of (only (λ a. may P a.stats) (live l.read))) (live v)
+    got_once : (P : Row → Bool) (g : List Row → List Row) (r : Respects g) → ClearFor (Change P g r) → AllOnce (paths_of (filter (λ a. may P a.stats) (live l.read))) (live v)
     got_once P g r clear =
         let t : Add → Bool = λ a. may P a.stats in
         let u : Add → Bool = λ a. may P a.stats && any_row P (rows a.path) in
         picked_once t (live l.read) (live v) (live_once commits l.read)
-        (λ p has. stays (paths_of (only t (live l.read))) (at_read t)
-        (λ k from to. (append_clear (Change P g r) k (paths_of (only t (live l.read))) (paths_of (only u (live l.read))) refl (λ stats. may P stats) (clear k from to)).1) p has v l.below (omega arith))
+        (λ p has. stays (paths_of (filter t (live l.read))) (at_read t)
+        (λ k from to. (append_clear (Change P g r) k (paths_of (filter t (live l.read))) (paths_of (filter u (live l.read))) refl (λ stats. may P stats) (clear k from to)).1) p has v l.below (omega arith))
 
     -- the rows before and those that are added are the rows after and those that are removed
     pub commit_rows : (x : Row) → count_of x (rows_at (suc v)) + count_of x (rows_in rows (removed_files rows may l.op (live l.read))) ≡ count_of x (rows_at v) + count_of x (rows_in rows l.added)
@@ -186,17 +188,17 @@ module _ (may : (Row → Bool) → List ℕ → Bool) (commits : ℕ → Commit)
           counts v e h = ap (λ (u : Level). counts_at u (commits (suc k))) e ∙ h
 
           by : (op : Operation) → (commits (suc k)).blind ≡ is_insert op → (commits (suc k)).changes ≡ not (is_compaction op)
-              → count_of x (rows_in rows w.added) + count_of x (only (scope_of op) (rows_in rows (got_files may op (live w.read)))) ≡ count_of x (rows_in rows (removed_files rows may op (live w.read))) + count_of x (result_of op (only (scope_of op) (rows_in rows (got_files may op (live w.read)))))
+              → count_of x (rows_in rows w.added) + count_of x (filter (scope_of op) (rows_in rows (got_files may op (live w.read)))) ≡ count_of x (rows_in rows (removed_files rows may op (live w.read))) + count_of x (result_of op (filter (scope_of op) (rows_in rows (got_files may op (live w.read)))))
               → count_of x (rows_at (suc k)) + count_of x (rows_in rows (removed_files rows may op (live w.read))) ≡ count_of x (rows_at k) + count_of x (rows_in rows w.added)
               → appended (suc k) ≡ inserted op → (v : Level) → level ≡ v → (counts_at level (commits (suc k)) ≡ true → count_of x (rows_in rows w.added) ≡ 0)
               → count_of x (rows_at (suc k)) ≤ count_of x (rows_at k) + count_of x (brought v (suc k))
-          by (Compact pick) blind changes balance sum app v e none = let n = count_of-only-no (λ y. false) x (rows_in rows (got_files may (Compact pick) (live w.read))) refl in omega arith
+          by (Compact pick) blind changes balance sum app v e none = let n = count_of-filter_no (λ y. false) x (rows_in rows (got_files may (Compact pick) (live w.read))) refl in omega arith
           by (Change Q g r) blind changes balance sum app Serializable e none = let n = none (counts Serializable e changes) in omega arith
           by (Change Q g r) blind changes balance sum app WriteSerializable e none =
               let n = none (counts WriteSerializable e (ap (λ (c : Bool). c && not (is_blind_append (commits (suc k)))) changes ∙ ap (λ (b : Bool). not (b && no_removes (commits (suc k)).lines)) blind)) in omega arith
           by (Insert rs) blind changes balance sum app Serializable e none = let n = none (counts Serializable e changes) in omega arith
           by (Insert rs) blind changes balance sum app WriteSerializable e none =
-              let n = count_of-only-no (λ y. false) x (rows_in rows (got_files may (Insert rs) (live w.read))) refl in
+              let n = count_of-filter_no (λ y. false) x (rows_in rows (got_files may (Insert rs) (live w.read))) refl in
               let m = ap (λ (l : List Row). count_of x l) app in
               omega arith
 
@@ -230,7 +232,7 @@ module _ (may : (Row → Bool) → List ℕ → Bool) (commits : ℕ → Commit)
       -- the files got hold the rows of the scope, and they stay
       lower : (P : Row → Bool) (g : List Row → List Row) (r : Respects g) (x : Row) → P x ≡ true → ClearFor v l (Change P g r) → count_of x (rows_at l.read) ≤ count_of x (rows_at v)
       lower P g r x is clear =
-          let there = rows_there rows x (paths_of (only (λ a. may P a.stats) (live l.read))) (live v) (got_once v l P g r clear) in
+          let there = rows_there rows x (paths_of (filter (λ a. may P a.stats) (live l.read))) (live v) (got_once v l P g r clear) in
           let below = l.below in
           let same = picked_rows rows x (λ a. may P a.stats) (live l.read) (none_left P x is (live l.read) (hold_live l.read (omega arith))) in
           omega arith
@@ -245,7 +247,7 @@ module _ (may : (Row → Bool) → List ℕ → Bool) (commits : ℕ → Commit)
       upper_of (Change P g r) clear x is =
           let t : Add → Bool = λ a. may P a.stats in
           let u : Add → Bool = λ a. may P a.stats && any_row P (rows a.path) in
-          upper P x is (λ k from to. (append_clear v l (Change P g r) k (paths_of (only t (live l.read))) (paths_of (only u (live l.read))) refl (λ stats. may P stats) (clear k from to)).0) v l.below (omega arith)
+          upper P x is (λ k from to. (append_clear v l (Change P g r) k (paths_of (filter t (live l.read))) (paths_of (filter u (live l.read))) refl (λ stats. may P stats) (clear k from to)).0) v l.below (omega arith)
       upper_of (Compact pick) clear x is = cc
 
       result_respects : (op : Operation) → Respects (result_of op)
@@ -263,45 +265,45 @@ module _ (may : (Row → Bool) → List ℕ → Bool) (commits : ℕ → Commit)
 
         missed_in : (x : Row) → P x ≡ true → count_of x m ≡ count_of x (rows_at v) - count_of x (rows_at l.read)
         missed_in x is =
-            let a = count_of-without x (only P (rows_at v)) (only P (rows_at l.read)) in
-            let b = count_of-only P x (rows_at v) is in
-            let c = count_of-only P x (rows_at l.read) is in
+            let a = count_of-without x (filter P (rows_at v)) (filter P (rows_at l.read)) in
+            let b = count_of-filter P x (rows_at v) is in
+            let c = count_of-filter P x (rows_at l.read) is in
             omega arith
 
         missed_out : (x : Row) → P x ≡ false → count_of x m ≡ 0
         missed_out x is =
-            let a = count_of-without x (only P (rows_at v)) (only P (rows_at l.read)) in
-            let b = count_of-only-no P x (rows_at v) is in
+            let a = count_of-without x (filter P (rows_at v)) (filter P (rows_at l.read)) in
+            let b = count_of-filter_no P x (rows_at v) is in
             omega arith
 
-        step_stays : IsContained (only P (rows_at l.read)) (only P (rows_at v))
+        step_stays : IsContained (filter P (rows_at l.read)) (filter P (rows_at v))
         step_stays x = by (P x) refl
           where
-            by : (b : Bool) → P x ≡ b → count_of x (only P (rows_at l.read)) ≤ count_of x (only P (rows_at v))
-            by true is = let a = count_of-only P x (rows_at v) is in let b = count_of-only P x (rows_at l.read) is in let c = lower_of op clear x is in omega arith
-            by false is = let b = count_of-only-no P x (rows_at l.read) is in omega arith
+            by : (b : Bool) → P x ≡ b → count_of x (filter P (rows_at l.read)) ≤ count_of x (filter P (rows_at v))
+            by true is = let a = count_of-filter P x (rows_at v) is in let b = count_of-filter P x (rows_at l.read) is in let c = lower_of op clear x is in omega arith
+            by false is = let b = count_of-filter_no P x (rows_at l.read) is in omega arith
 
         -- what the operation reads of the rows without the missed ones is what it read
-        same_scope : SameRows (only P (without (rows_at v) m)) (only P (rows_at l.read))
+        same_scope : SameRows (filter P (without (rows_at v) m)) (filter P (rows_at l.read))
         same_scope x = by (P x) refl
           where
-            by : (b : Bool) → P x ≡ b → count_of x (only P (without (rows_at v) m)) ≡ count_of x (only P (rows_at l.read))
+            by : (b : Bool) → P x ≡ b → count_of x (filter P (without (rows_at v) m)) ≡ count_of x (filter P (rows_at l.read))
             by true is =
-                let a = count_of-only P x (without (rows_at v) m) is in
-                let b = count_of-only P x (rows_at l.read) is in
+                let a = count_of-filter P x (without (rows_at v) m) is in
+                let b = count_of-filter P x (rows_at l.read) is in
                 let c = count_of-without x (rows_at v) m in
                 let d = missed_in x is in
                 let e = lower_of op clear x is in
                 omega arith
-            by false is = count_of-only-no P x (without (rows_at v) m) is ∙ sym (count_of-only-no P x (rows_at l.read) is)
+            by false is = count_of-filter_no P x (without (rows_at v) m) is ∙ sym (count_of-filter_no P x (rows_at l.read) is)
 
-        step_result : (balance : (x : Row) → count_of x (rows_in rows l.added) + count_of x (only P (rows_at l.read)) ≡ count_of x (rows_in rows (removed_files rows may op (live l.read))) + count_of x (result_of op (only P (rows_at l.read))))
+        step_result : (balance : (x : Row) → count_of x (rows_in rows l.added) + count_of x (filter P (rows_at l.read)) ≡ count_of x (rows_in rows (removed_files rows may op (live l.read))) + count_of x (result_of op (filter P (rows_at l.read))))
             → (sum : (x : Row) → count_of x (rows_at (suc v)) + count_of x (rows_in rows (removed_files rows may op (live l.read))) ≡ count_of x (rows_at v) + count_of x (rows_in rows l.added))
             → SameRows (rows_at (suc v)) (operated op (without (rows_at v) m) ++ m)
         step_result balance sum x =
             let a = count_of-append x (operated op (without (rows_at v) m)) m in
-            let b = count_of-append x (others P (without (rows_at v) m)) (result_of op (only P (without (rows_at v) m))) in
-            let c = result_respects op (only P (without (rows_at v) m)) (only P (rows_at l.read)) same_scope x in
+            let b = count_of-append x (others P (without (rows_at v) m)) (result_of op (filter P (without (rows_at v) m))) in
+            let c = result_respects op (filter P (without (rows_at v) m)) (filter P (rows_at l.read)) same_scope x in
             let d = balance x in
             let e = sum x in
             let f = count_of-without x (rows_at v) m in
@@ -309,22 +311,22 @@ module _ (may : (Row → Bool) → List ℕ → Bool) (commits : ℕ → Commit)
           where
             by : (q : Bool) → P x ≡ q
                 → count_of x (operated op (without (rows_at v) m) ++ m) ≡ count_of x (operated op (without (rows_at v) m)) + count_of x m
-                → count_of x (operated op (without (rows_at v) m)) ≡ count_of x (others P (without (rows_at v) m)) + count_of x (result_of op (only P (without (rows_at v) m)))
-                → count_of x (result_of op (only P (without (rows_at v) m))) ≡ count_of x (result_of op (only P (rows_at l.read)))
-                → count_of x (rows_in rows l.added) + count_of x (only P (rows_at l.read)) ≡ count_of x (rows_in rows (removed_files rows may op (live l.read))) + count_of x (result_of op (only P (rows_at l.read)))
+                → count_of x (operated op (without (rows_at v) m)) ≡ count_of x (others P (without (rows_at v) m)) + count_of x (result_of op (filter P (without (rows_at v) m)))
+                → count_of x (result_of op (filter P (without (rows_at v) m))) ≡ count_of x (result_of op (filter P (rows_at l.read)))
+                → count_of x (rows_in rows l.added) + count_of x (filter P (rows_at l.read)) ≡ count_of x (rows_in rows (removed_files rows may op (live l.read))) + count_of x (result_of op (filter P (rows_at l.read)))
                 → count_of x (rows_at (suc v)) + count_of x (rows_in rows (removed_files rows may op (live l.read))) ≡ count_of x (rows_at v) + count_of x (rows_in rows l.added)
                 → count_of x (without (rows_at v) m) ≡ count_of x (rows_at v) - count_of x m
                 → count_of x (rows_at (suc v)) ≡ count_of x (operated op (without (rows_at v) m) ++ m)
             by true is a b c d e f =
-                let g = count_of-others-no P x (without (rows_at v) m) is in
+                let g = count_of-others_no P x (without (rows_at v) m) is in
                 let h = missed_in x is in
-                let i = count_of-only P x (rows_at l.read) is in
+                let i = count_of-filter P x (rows_at l.read) is in
                 let j = lower_of op clear x is in
                 omega arith
             by false is a b c d e f =
                 let g = count_of-others P x (without (rows_at v) m) is in
                 let h = missed_out x is in
-                let i = count_of-only-no P x (rows_at l.read) is in
+                let i = count_of-filter_no P x (rows_at l.read) is in
                 omega arith
 
         step_fits : MissedFits l.level m (between appended l.read v)
@@ -339,24 +341,24 @@ module _ (may : (Row → Bool) → List ℕ → Bool) (commits : ℕ → Commit)
             by WriteSerializable e = λ x. let a = one x (P x) refl in let b = ap (λ (w : Level). count_of x (allowed w l.read v)) e in omega arith
 
       -- the files got hold all rows of the scope
-      got_scope : (op : Operation) → SameRows (only (scope_of op) (rows_in rows (got_files may op (live l.read)))) (only (scope_of op) (rows_at l.read))
-      got_scope (Insert rs) = λ x. count_of-only-no (λ y. false) x (rows_in rows []) refl ∙ sym (count_of-only-no (λ y. false) x (rows_at l.read) refl)
-      got_scope (Compact pick) = λ x. count_of-only-no (λ y. false) x (rows_in rows (only (pick (live l.read)) (live l.read))) refl ∙ sym (count_of-only-no (λ y. false) x (rows_at l.read) refl)
+      got_scope : (op : Operation) → SameRows (filter (scope_of op) (rows_in rows (got_files may op (live l.read)))) (filter (scope_of op) (rows_at l.read))
+      got_scope (Insert rs) = λ x. count_of-filter_no (λ y. false) x (rows_in rows []) refl ∙ sym (count_of-filter_no (λ y. false) x (rows_at l.read) refl)
+      got_scope (Compact pick) = λ x. count_of-filter_no (λ y. false) x (rows_in rows (filter (pick (live l.read)) (live l.read))) refl ∙ sym (count_of-filter_no (λ y. false) x (rows_at l.read) refl)
       got_scope (Change P g r) = λ x. by x (P x) refl
         where
-          by : (x : Row) (b : Bool) → P x ≡ b → count_of x (only P (rows_in rows (only (λ a. may P a.stats) (live l.read)))) ≡ count_of x (only P (rows_at l.read))
+          by : (x : Row) (b : Bool) → P x ≡ b → count_of x (filter P (rows_in rows (filter (λ a. may P a.stats) (live l.read)))) ≡ count_of x (filter P (rows_at l.read))
           by x true is =
               let below = l.below in
-              count_of-only P x (rows_in rows (only (λ a. may P a.stats) (live l.read))) is
+              count_of-filter P x (rows_in rows (filter (λ a. may P a.stats) (live l.read))) is
               ∙ picked_rows rows x (λ a. may P a.stats) (live l.read) (none_left P x is (live l.read) (hold_live l.read (omega arith)))
-              ∙ sym (count_of-only P x (rows_at l.read) is)
-          by x false is = count_of-only-no P x (rows_in rows (only (λ a. may P a.stats) (live l.read))) is ∙ sym (count_of-only-no P x (rows_at l.read) is)
+              ∙ sym (count_of-filter P x (rows_at l.read) is)
+          by x false is = count_of-filter_no P x (rows_in rows (filter (λ a. may P a.stats) (live l.read))) is ∙ sym (count_of-filter_no P x (rows_at l.read) is)
 
-      balance_of : (op : Operation) → (x : Row) → count_of x (rows_in rows l.added) + count_of x (only (scope_of op) (rows_in rows (got_files may op (live l.read)))) ≡ count_of x (rows_in rows (removed_files rows may op (live l.read))) + count_of x (result_of op (only (scope_of op) (rows_in rows (got_files may op (live l.read)))))
-          → count_of x (rows_in rows l.added) + count_of x (only (scope_of op) (rows_at l.read)) ≡ count_of x (rows_in rows (removed_files rows may op (live l.read))) + count_of x (result_of op (only (scope_of op) (rows_at l.read)))
+      balance_of : (op : Operation) → (x : Row) → count_of x (rows_in rows l.added) + count_of x (filter (scope_of op) (rows_in rows (got_files may op (live l.read)))) ≡ count_of x (rows_in rows (removed_files rows may op (live l.read))) + count_of x (result_of op (filter (scope_of op) (rows_in rows (got_files may op (live l.read)))))
+          → count_of x (rows_in rows l.added) + count_of x (filter (scope_of op) (rows_at l.read)) ≡ count_of x (rows_in rows (removed_files rows may op (live l.read))) + count_of x (result_of op (filter (scope_of op) (rows_at l.read)))
       balance_of op x b =
           let e = got_scope op x in
-          let f = result_respects op (only (scope_of op) (rows_in rows (got_files may op (live l.read)))) (only (scope_of op) (rows_at l.read)) (got_scope op) x in
+          let f = result_respects op (filter (scope_of op) (rows_in rows (got_files may op (live l.read)))) (filter (scope_of op) (rows_at l.read)) (got_scope op) x in
           omega arith
 
       pub serial : SerialStep l.level rows_at appended l.op l.read v

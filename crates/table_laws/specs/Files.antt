@@ -2,7 +2,7 @@
 use Rattle.std.specs.Prelude.{ℕ, Bool, true, false, if◌then◌else◌, List, [], ◌∷◌, ◌++◌}
 use Rattle.std.specs.Str.{bytes_eq}
 use Rattle.snapshot_replay.specs.Table.{Add, Action, Removes, Adds, Commit, paths_of, snapshot_at}
-use Rattle.table_laws.specs.Bags.{Row}
+use Rattle.table_laws.specs.Rows.{Row}
 
 -- the live files of a version, by what each version's commit says
 abbrev pub live_by : (ℕ → Commit) → ℕ → List Add

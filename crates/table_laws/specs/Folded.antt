@@ -2,11 +2,12 @@
 use Rattle.std.specs.Prelude.{ℕ, zero, suc, ◌<◌, ◌^◌, List, [], Option, Some, None}
 use Rattle.edge_api.specs.declared.call.Tag.{Tag}
 use Rattle.edge_api.specs.Journal.{Moment, IsLegal, entries_of}
+use Rattle.row_base.specs.Bags.{SameRows}
 use Rattle.op_types.specs.declared.statement.Statement.{Statement}
 use Rattle.op_types.specs.declared.reply.Reply.{Reply}
 use Rattle.table_rules.specs.Names.{commit_text}
 use Rattle.txn_machine.specs.Answered.{Kept}
-use Rattle.table_laws.specs.Bags.{Row, SameRows}
+use Rattle.table_laws.specs.Rows.{Row}
 use Rattle.table_laws.specs.Operations.{Operation, operated}
 use Rattle.table_laws.specs.History.{Put, history, put_under, rows_at, IsCommitted}
 use Rattle.table_laws.specs.Laws.{statement_of, operation_by}

@@ -11,7 +11,7 @@ use Rattle.edge_api.specs.Journal.{Objects, Moment, after, object_at}
 use Rattle.table_rules.specs.Names.{commit_text}
 use Rattle.snapshot_replay.specs.Table.{Commit}
 use Rattle.txn_machine.specs.Texts.{read_commit, read_file}
-use Rattle.table_laws.specs.Bags.{Row}
+use Rattle.table_laws.specs.Rows.{Row}
 use Rattle.table_laws.specs.Files.{live_by, rows_in}
 
 -- a put of a free name that took effect, with the clock at it

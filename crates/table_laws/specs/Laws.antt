@@ -9,13 +9,14 @@ use Rattle.op_types.specs.declared.reply.CheckpointOutcome.{CheckpointOutcome}
 use Rattle.table_rules.specs.Names.{commit_text}
 use Rattle.call_phases.specs.Phases.{Entries}
 use Rattle.txn_machine.specs.Answered.{Kept, Sorts}
-use Rattle.table_laws.specs.Bags.{Row}
+use Rattle.actor_core.specs.Entries.{own}
+use Rattle.table_laws.specs.Rows.{Row}
 use Rattle.table_laws.specs.Operations.{Operation, operation_of, inserted}
 use Rattle.table_laws.specs.Conflicts.{Level}
 use Rattle.table_laws.specs.Serial.{SerialStep}
 use Rattle.table_laws.specs.Files.{live_by}
 use Rattle.table_laws.specs.History.{Put, history, put_under, commit_at, rows_at, IsCommitted}
-use Rattle.table_laws.specs.Runs.{own, version_read, versions_put, IsRun}
+use Rattle.table_laws.specs.Runs.{version_read, versions_put, IsRun}
 
 abbrev pub statement_of : (Tag → Option Statement) → Option Put → Option Statement
 statement_of script None = None

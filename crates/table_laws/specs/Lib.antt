@@ -1,4 +1,4 @@
-pub mod Bags
+pub mod Rows
 pub mod Operations
 pub mod Files
 pub mod Effects

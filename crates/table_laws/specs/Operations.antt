@@ -1,9 +1,11 @@
 -- What statements do to the rows of a table, as operations on bags.
 use Rattle.std.specs.Prelude.{ℕ, Bool, true, false, ◌&&◌, if◌then◌else◌, List, [], ◌∷◌, ◌++◌, Option, Some, None}
+use Rattle.std.specs.List.{filter}
+use Rattle.row_base.specs.Bags.{SameRows, others}
 use Rattle.op_types.specs.declared.statement.Statement.{Statement}
 use Rattle.op_types.specs.declared.statement.Statement.TheVariants as statement
 use Rattle.snapshot_replay.specs.Table.{Add}
-use Rattle.table_laws.specs.Bags.{Row, SameRows, only, others}
+use Rattle.table_laws.specs.Rows.{Row}
 
 -- the same rows give the same rows, whatever their order
 abbrev pub Respects : (List Row → List Row) → Type 0
@@ -35,7 +37,7 @@ result_of (Compact pick) xs = []
 
 -- the rows after an operation, by those before
 abbrev pub operated : Operation → List Row → List Row
-operated op rows = others (scope_of op) rows ++ result_of op (only (scope_of op) rows)
+operated op rows = others (scope_of op) rows ++ result_of op (filter (scope_of op) rows)
 
 abbrev pub is_insert : Operation → Bool
 is_insert (Insert rows) = true
@@ -65,11 +67,11 @@ any_row P (x ∷ xs) = if P x then true else any_row P xs
 -- the files that an operation gets, by whether an add's facts allow a row of a scope
 abbrev pub got_files : ((Row → Bool) → List ℕ → Bool) → Operation → List Add → List Add
 got_files may (Insert rows) fs = []
-got_files may (Change P g r) fs = only (λ a. may P a.stats) fs
-got_files may (Compact pick) fs = only (pick fs) fs
+got_files may (Change P g r) fs = filter (λ a. may P a.stats) fs
+got_files may (Compact pick) fs = filter (pick fs) fs
 
 -- the files that it takes out
 abbrev pub removed_files : (List ℕ → List Row) → ((Row → Bool) → List ℕ → Bool) → Operation → List Add → List Add
 removed_files rows may (Insert rs) fs = []
-removed_files rows may (Change P g r) fs = only (λ a. may P a.stats && any_row P (rows a.path)) fs
-removed_files rows may (Compact pick) fs = only (pick fs) fs
+removed_files rows may (Change P g r) fs = filter (λ a. may P a.stats && any_row P (rows a.path)) fs
+removed_files rows may (Compact pick) fs = filter (pick fs) fs

@@ -12,8 +12,9 @@ use Rattle.op_types.specs.declared.reply.Reply.TheVariants.{Refused}
 use Rattle.table_rules.specs.Names.{commit_text}
 use Rattle.call_phases.specs.Phases.{Entries}
 use Rattle.txn_machine.specs.Answered.{Kept}
+use Rattle.actor_core.specs.Entries.{own}
 use Rattle.table_laws.specs.History.{Put, history, put_under}
-use Rattle.table_laws.specs.Runs.{own, IsRun}
+use Rattle.table_laws.specs.Runs.{IsRun}
 
 -- the refusals that leave open whether a version was committed
 abbrev pub IsUnknown : Refusal → Type 0

@@ -1,5 +1,5 @@
 -- Journals in which each statement of a script is answered by its own entries.
-use Rattle.std.specs.Prelude.{◌≡◌, ◌⊎◌, ℕ, zero, suc, ◌<◌, ◌^◌, ◌==◌, ◌&&◌, Bool, if◌then◌else◌, List, [], ◌∷◌, Option, Some, None}
+use Rattle.std.specs.Prelude.{◌≡◌, ◌⊎◌, ℕ, zero, suc, ◌<◌, ◌^◌, if◌then◌else◌, List, [], ◌∷◌, Option, Some, None}
 use Rattle.std.specs.Str.{bytes_eq}
 use Rattle.edge_api.specs.declared.call.Tag.{Tag}
 use Rattle.edge_api.specs.declared.call.Call.{Call}
@@ -18,14 +18,7 @@ use Rattle.call_phases.specs.Phases.{Entries}
 use Rattle.txn_machine.specs.Phases.{newest, commit_version}
 use Rattle.txn_machine.specs.Texts.{read_commit}
 use Rattle.txn_machine.specs.Answered.{Kept, Answered}
-
-abbrev pub same_tag : Tag → Tag → Bool
-same_tag a b = (a.actor == b.actor) && (a.statement == b.statement)
-
--- the entries of a statement
-abbrev pub own : Tag → Entries → Entries
-own tag [] = []
-own tag (e ∷ es) = if same_tag tag e.tag then e ∷ own tag es else own tag es
+use Rattle.actor_core.specs.Entries.{own}
 
 abbrev pub IsAnsweredPart : ℕ → Tag → Option Kept → Option Statement → Entries → Option Reply → Type 0
 IsAnsweredPart limit tag kept None part reply = part ≡ []
