@@ -47,7 +47,10 @@ fn replies(alloc: Global, kill: Option<u64>) -> Result<String, Fail> {
 #[test]
 fn each_statement_has_its_reply(rt: HostRuntime) -> Result<(), Fail> {
     assert_eq!(rt; replies(rt.alloc(), None)?.as_str(), "no table; no table; ");
-    assert_eq!(rt; replies(rt.alloc(), Some(4))?.as_str(), "no table; no table; ");
+    assert_eq!(rt;
+        replies(rt.alloc(), Some(4))?.as_str(),
+        "no table; no table; "
+    );
     Ok(())
 }
 
@@ -55,7 +58,13 @@ fn each_statement_has_its_reply(rt: HostRuntime) -> Result<(), Fail> {
 fn a_killed_session_ends_at_once(rt: HostRuntime) -> Result<(), Fail> {
     assert_eq!(rt; replies(rt.alloc(), Some(0))?.as_str(), "killed; ");
     assert_eq!(rt; replies(rt.alloc(), Some(1))?.as_str(), "killed; ");
-    assert_eq!(rt; replies(rt.alloc(), Some(2))?.as_str(), "no table; killed; ");
-    assert_eq!(rt; replies(rt.alloc(), Some(3))?.as_str(), "no table; killed; ");
+    assert_eq!(rt;
+        replies(rt.alloc(), Some(2))?.as_str(),
+        "no table; killed; "
+    );
+    assert_eq!(rt;
+        replies(rt.alloc(), Some(3))?.as_str(),
+        "no table; killed; "
+    );
     Ok(())
 }
