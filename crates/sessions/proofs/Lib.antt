@@ -1,3 +1,2 @@
-pub mod Open
 pub mod Sessions
 pub mod Stands

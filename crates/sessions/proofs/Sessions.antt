@@ -1,24 +1,20 @@
 -- An answer to a session.
-use Rattle.std.proofs.Common.{◌≡◌, inl, inr, Bool, true, false, ℕ, ◌+◌, ◌*◌, ◌<◌, ◌≤◌, List, [], ◌∷◌, ◌++◌, length, refl, sym, ◌∙◌, ap, subst, arith, append_assoc, ◌-◌}
+use Rattle.std.proofs.Common.{◌≡◌, inl, inr, Bool, ℕ, ◌+◌, ◌*◌, ◌<◌, ◌≤◌, List, [], ◌∷◌, ◌++◌, length, refl, sym, ◌∙◌, ap, subst, arith, append_assoc}
 use Rattle.std.proofs.Math.Nat.{add-mul}
-use Rattle.std.proofs.lemmas.List.{append-nil}
-use Rattle.std.specs.Prelude.{Option, Some, None, is_some}
+use Rattle.std.specs.Prelude.{Option, Some, None}
 use Rattle.edge_api.specs.Actor.{Event, Made, Refused, event_of, entries_of_events}
 use Rattle.edge_api.specs.declared.actor.Fed.{Fed}
 use Rattle.edge_api.specs.declared.actor.Fed.TheVariants as fed
 use Rattle.edge_api.specs.declared.call.Call.{Call}
 use Rattle.edge_api.specs.declared.call.Tag.{Tag}
 use Rattle.op_types.specs.declared.reply.Reply.{Reply}
-use Rattle.op_types.specs.declared.reply.Reply.TheVariants.{Killed}
-use Rattle.op_types.specs.declared.statement.Statement.{Statement}
 use Rattle.call_phases.specs.Phases.{Entries}
 use Rattle.txn_machine.specs.Machine.{Rest, left_of}
 use Rattle.txn_machine.specs.Txn as txn
 use Rattle.txn_machine.specs.declared.stage.Plan.{Plan}
 use Rattle.txn_machine.specs.declared.txn.Txn.{Txn}
 use Rattle.sessions.specs.declared.session.Session.{Session}
-use Rattle.sessions.specs.Session.{Numbered, AllTagged, later_plans, RestNow, RestBy, Remains, RemainsAfter, Stops, IsAlive, HasCalls, count_of, Started, Begins, AllAnswered, IsReadyNow, AsksNow, Asks, left, left_now}
-use Rattle.sessions.proofs.Open.{still_open}
+use Rattle.sessions.specs.Session.{Numbered, AllTagged, later_plans, RestNow, RestBy, Remains, RemainsAfter, Stops, IsAlive, HasCalls, count_of, Started, Begins, IsReplied, AllAnswered, AsksNow, Asks, left, left_now}
 
 -- the statement that was asked
 pub record Asked (old : Session) (tag : Tag) (call : Call) (t : Txn) : Type 0 where
@@ -83,12 +79,6 @@ calls_now (Some n) (Some t) tag call new h alive = alive
 pub has_calls : (old : Session) (tag : Tag) (call : Call) (self : Session) → Asks old tag call self → HasCalls self.kill
 has_calls old tag call self a = subst HasCalls (sym a.kill) (calls_now old.kill old.current tag call self.current a.current a.ready.alive)
 
--- one that has calls left is alive
-pub alive_now : (kill : Option ℕ) (now : Option Txn) → HasCalls kill → IsAlive kill now
-alive_now None now h = tt
-alive_now (Some n) None h = tt
-alive_now (Some n) (Some t) h = h
-
 pub event_falls : (old : Session) (tag : Tag) (call : Call) (self new : Session) (o t : Txn) → Asks old tag call self → old.current ≡ Some o → left_of t.plan t.stage < left_of o.plan o.stage
     → left new ≤ length self.later.items * (3 * self.limit + 2097201) + left_of t.plan t.stage → left new < left old
 event_falls old tag call self new o t a is falls most =
@@ -108,33 +98,19 @@ started_answered killed p later t es (r ∷ rs) s (inl x) = inl (x.0, (x.1.0, x.
 started_answered killed p later t es (r ∷ rs) s (inr h) = inr (h.0, h.1, h.2, subst (λ (g : Tag). AllTagged g h.0) s.tag h.3, s.begins h.0 (Some r) h.4, h.5)
 
 -- a statement that has begun
-pub begun_answered : (killed : Bool) (ps later : List Numbered) (now : Option Txn) (es : Entries) (rs : List Reply) → Begins ps later now → RestNow killed now later es rs → AllAnswered killed ps es rs
+begun_answered : (killed : Bool) (ps later : List Numbered) (now : Option Txn) (es : Entries) (rs : List Reply) → Begins ps later now → RestNow killed now later es rs → AllAnswered killed ps es rs
 begun_answered killed ps later None es rs begins h = subst (λ (l : List Numbered). AllAnswered killed l es rs) (sym begins.0) h
 begun_answered killed ps later (Some t) es rs begins h = subst (λ (l : List Numbered). AllAnswered killed l es rs) (sym begins.1) (started_answered killed begins.0 later t es rs begins.2 h)
 
+-- a session that has begun its first statement
+pub first_answered : (killed : Bool) (ps later : List Numbered) (now : Option Txn) (replies : List Reply) (es : Entries) (all : List Reply) → replies ≡ [] → Begins ps later now → RestBy killed replies now later es all → AllAnswered killed ps es all
+first_answered killed ps later now replies es all none begins h =
+    let whole : all ≡ h.0 = h.1 ∙ ap (λ (l : List Reply). l ++ h.0) none in
+    subst (λ (l : List Reply). AllAnswered killed ps es l) (sym whole) (begun_answered killed ps later now es h.0 begins h.2)
+
 -- a statement that has its reply, and the next
-pub settled : (killed : Bool) (t : Txn) (ps later : List Numbered) (now : Option Txn) (replies new : List Reply) (r : Reply) (es : Entries) (all : List Reply) → Begins ps later now → Rest t.plan t.stage [] (Some r) → new ≡ replies ++ r ∷ []
-    → RestBy killed new now later es all → RestBy killed replies (Some t) ps es all
-settled killed t ps later now replies new r es all begins is grown h =
-    (r ∷ h.0, h.1 ∙ ap (λ (l : List Reply). l ++ h.0) grown ∙ append_assoc replies (r ∷ []) h.0, inr ([], es, refl, tt, is, begun_answered killed ps later now es h.0 begins h.2))
-
--- a session that is killed
-pub ended : (kill : Option ℕ) (t : Txn) (ps later : List Numbered) (now after : Option Txn) (replies new : List Reply) (es : Entries) (all : List Reply) → kill ≡ Some 0 → now ≡ Some t → 0 < left_of t.plan t.stage → after ≡ None → new ≡ replies ++ Killed ∷ []
-    → (killed : Bool) × Stops kill (length es) killed × RestBy killed new after later es all → (killed : Bool) × Stops kill (length es) killed × RestBy killed replies now ps es all
-ended kill t ps later now after replies new es all none is some off grown h =
-    let last = subst (λ (n : Option Txn). RestNow h.0 n later es h.2.0) off h.2.2 in
-    let whole : all ≡ replies ++ Killed ∷ [] = h.2.1 ∙ ap (λ (l : List Reply). new ++ l) last.1 ∙ append-nil new ∙ grown in
-    let long : length es ≡ 0 = ap length last.0 in
-    let stops : Stops kill (length es) true = subst (λ (k : Option ℕ). Stops k (length es) true) (sym none) long in
-    let here : RestNow true (Some t) ps [] (Killed ∷ []) = inl (refl, (refl, refl, tt), still_open t.plan t.stage some) in
-    (true, stops, (Killed ∷ [], whole, subst (λ (n : Option Txn). RestNow true n ps es (Killed ∷ [])) (sym is) (subst (λ (l : Entries). RestNow true (Some t) ps l (Killed ∷ [])) (sym last.0) here)))
-
--- one more answer
-pub stops_more : (kill : Option ℕ) (k n : ℕ) (killed : Bool) → kill ≡ Some k → 0 < k → Stops (Some (k - 1)) n killed → Stops kill (1 + n) killed
-stops_more kill k n true is some h = subst (λ (o : Option ℕ). Stops o (1 + n) true) (sym is) (omega (arith, h))
-stops_more kill k n false is some h = subst (λ (o : Option ℕ). Stops o (1 + n) false) (sym is) (omega (arith, h))
-
-pub ended_now : (kill : Option ℕ) (ps later : List Numbered) (now after : Option Txn) (n : ℕ) (sts : List Statement) (replies new : List Reply) (es : Entries) (all : List Reply) → kill ≡ Some 0 → is_some now ≡ true → IsReadyNow now n sts → after ≡ None
-    → new ≡ replies ++ Killed ∷ [] → (killed : Bool) × Stops kill (length es) killed × RestBy killed new after later es all → (killed : Bool) × Stops kill (length es) killed × RestBy killed replies now ps es all
-ended_now kill ps later None after n sts replies new es all none some ready off grown h = cc
-ended_now kill ps later (Some t) after n sts replies new es all none some ready off grown h = ended kill t ps later (Some t) after replies new es all none refl ready.2 off grown h
+pub settled : (killed : Bool) (t : Txn) (ps later : List Numbered) (now : Option Txn) (replies new : List Reply) (es : Entries) (all : List Reply) → Begins ps later now → IsReplied t replies new → RestBy killed new now later es all
+    → RestBy killed replies (Some t) ps es all
+settled killed t ps later now replies new es all begins given h =
+    let r = given.reply in
+    (r ∷ h.0, h.1 ∙ ap (λ (l : List Reply). l ++ h.0) given.last ∙ append_assoc replies (r ∷ []) h.0, inr ([], es, refl, tt, given.rest, begun_answered killed ps later now es h.0 begins h.2))

@@ -20,11 +20,6 @@ use Rattle.sessions.specs.declared.session.Session.{Session}
 use Rattle.sessions.specs.Session.{Asks, IsReady, IsReadyNow, IsCounted, IsNew, GoesOnBy, GoesOn, StaysOrEnds}
 use Rattle.sessions.specs.Under.{under, IsWithin, Stays, IsOver, IsLed, IsFresh}
 
--- a statement that is new is counted
-pub counted_new : (o : Option Txn) (first next : ℕ) → IfSome o (IsNew first next) → IsCounted o next
-counted_new None first next h = tt
-counted_new (Some t) first next h = (h.number, h.most)
-
 pub next_is : (o : Option Txn) (t : Txn) (first next : ℕ) → o ≡ Some t → IfSome o (IsNew first next) → IsNew first next t
 next_is o t first next is h = subst (λ (x : Option Txn). IfSome x (IsNew first next)) is h
 
@@ -38,15 +33,6 @@ goes_further a t u first next number (inr more) fresh =
     let m = more.0 in
     let f = fresh.further in
     inr (omega (arith, number, m, f), fresh.stands)
-
-stands_now : (t : Txn) (o : Option Call) → t.pending ≡ o → is_none o ≡ false → IfSome o (λ call. place_of t.stage ≡ place.Between) → place_of t.stage ≡ place.Between
-stands_now t None is some h = cc
-stands_now t (Some call) is some h = h
-
--- one that is to make a call
-pub goes_on_by : (a t : Txn) → is_none t.pending ≡ false → GoesOnBy a t → GoesOn a (Some t)
-goes_on_by a t some (inl same) = inl same
-goes_on_by a t some (inr more) = inr (more.0, stands_now t t.pending refl some more.1)
 
 pub goes_on_none : (a : Txn) (o : Option Txn) → o ≡ None → GoesOn a o
 goes_on_none a o none = subst (GoesOn a) (sym none) tt
@@ -127,18 +113,19 @@ event_led old tag call self o asked t answer n later a is asks goes falls ready 
     let apart : place_of t.stage ≡ place.Between → ⊥ = not_new t.plan t.stage (omega (arith, most, limit, falls)) in
     subst (λ (x : Option Txn). IsLed (under x) (event_of tag call answer) (under n)) (sym is) (led_now o asked t tag call answer n old.actor later asks goes apart (actor_now old o a.ready is) ready on)
 
+stands_now : (t : Txn) (o : Option Call) → t.pending ≡ o → is_none o ≡ false → IfSome o (λ call. place_of t.stage ≡ place.Between) → place_of t.stage ≡ place.Between
+stands_now t None is some h = cc
+stands_now t (Some call) is some h = h
+
 pending_some : (n : ℕ) (o : Option Call) → txn.LeftBy n o → 0 < n → is_none o ≡ false
 pending_some n None nothing some = absurd (omega (arith, nothing, some))
 pending_some n (Some call) more some = refl
 
 -- a session that made no call yet
-pub fresh_now : (t : Txn) (n : Option Txn) (k next : ℕ) (later : List Statement) → IsNew 1 next t → GoesOn t n → IsReadyNow n k later → IsFresh k (under n)
-fresh_now t None k next later new on ready = tt
-fresh_now t (Some u) k next later new (inl same) ready =
-    let here : IsNew 1 next u = subst (λ (x : Txn). IsNew 1 next x) (sym same) new in
-    let some = pending_some (left_of u.plan u.stage) u.pending (ready.0).left ready.2 in
-    (ready.1, omega (arith, here.further), stands_now u u.pending refl some here.stands)
-fresh_now t (Some u) k next later new (inr more) ready = (ready.1, omega (arith, more.0), more.1)
-
-pub fresh_none : (n : Option Txn) (k : ℕ) → n ≡ None → IsFresh k (under n)
-fresh_none n k none = subst (λ (x : Option Txn). IsFresh k (under x)) (sym none) tt
+pub fresh_now : (t : Txn) (n : Option Txn) (k first next : ℕ) (later : List Statement) → 0 < first → IsNew first next t → GoesOn t n → IsReadyNow n k later → IsFresh k (under n)
+fresh_now t None k first next later some new on ready = tt
+fresh_now t (Some u) k first next later some new (inl same) ready =
+    let here : IsNew first next u = subst (λ (x : Txn). IsNew first next x) (sym same) new in
+    let pending = pending_some (left_of u.plan u.stage) u.pending (ready.0).left ready.2 in
+    (ready.1, omega (arith, here.further, some), stands_now u u.pending refl pending here.stands)
+fresh_now t (Some u) k first next later some new (inr more) ready = (ready.1, omega (arith, more.0), more.1)

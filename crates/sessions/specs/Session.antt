@@ -140,6 +140,15 @@ pub record IsReady (s : Session) : Type 0 where
   pub settled : IsSettled s
   pub alive : IsAlive s.kill s.current
 
+-- no statement is begun, and there is room for every reply
+pub record IsIdle (s : Session) : Type 0 where
+  pub none : s.current ≡ None
+  pub replies : s.replies.items ≡ []
+  pub limit : IsLimit s.limit
+  pub room : length s.later.items ≤ vec_capacity s.replies
+  pub first : 0 < s.next
+  pub numbers : s.next + length s.later.items < 4294967296
+
 abbrev pub AsksNow : Option Txn → Tag → Call → Option Txn → Type 0
 AsksNow None tag call new = ⊥
 AsksNow (Some old) tag call None = ⊥
@@ -170,6 +179,12 @@ pub record Started (p : Numbered) (t : Txn) : Type 0 where
   pub ready : txn.IsReady t
   pub begins : (es : Entries) (reply : Option Reply) → Rest t.plan t.stage es reply → Answered p.tag p.limit None p.statement es reply
   pub left : left_of t.plan t.stage ≤ 3 * p.limit + 2097200
+
+-- the statement that is done has its reply, which is put behind the others
+pub record IsReplied (t : Txn) (old new : List Reply) : Type 0 where
+  pub reply : Reply
+  pub rest : Rest t.plan t.stage [] (Some reply)
+  pub last : new ≡ old ++ reply ∷ []
 
 -- the first of the later statements is begun, if there is one
 abbrev pub Begins : List Numbered → List Numbered → Option Txn → Type 0

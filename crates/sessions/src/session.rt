@@ -1,10 +1,12 @@
 //! Statements one after another, as an actor.
-ghost use Rattle.std.specs.Prelude.{◌≡◌, ◌<◌, ◌≤◌, ◌+◌, ◌*◌, length, List, [], Option, Some, None, Bool, if◌then◌else◌, IfOk, IfSome, vec_capacity};
+ghost use Rattle.std.specs.Prelude.{◌≡◌, ◌<◌, ◌≤◌, ◌+◌, ◌*◌, ◌++◌, ◌∷◌, ℕ, length, List, [], Option, Some, None, Bool, true, if◌then◌else◌, IfOk, IfSome, IsSome, IsTrue, IsFalse, vec_capacity};
 ghost use Rattle.call_phases.specs.Phases.{Entries};
 ghost use Rattle.op_types.specs.declared.reply.Reply.{Reply as AReply};
 ghost use Rattle.txn_machine.specs.Machine.{left_of};
+ghost use Rattle.txn_machine.specs.Place.{place_of};
 ghost use Rattle.txn_machine.specs.Txn as txn_specs;
-ghost use Rattle.sessions.specs.Session.{plans_from, later_plans, AnsweredTo, RestBy, Stops, Remains, RemainsAfter, HasCalls, count_of, Goes, IsLimit, count_now, IsSettled, IsReady, Asks, left_now, left, place_now, Begins, IsCounted, IsNew, GoesOn, StaysOrEnds};
+ghost use Rattle.edge_api.specs.declared.actor.Stage.TheVariants as place;
+ghost use Rattle.sessions.specs.Session.{plans_from, later_plans, AnsweredTo, RestBy, Stops, Remains, RemainsAfter, HasCalls, count_of, Goes, IsLimit, IsReplied, IsIdle, IsAlive, Started, count_now, IsSettled, IsReady, Asks, left_now, left, place_now, Begins, IsCounted, IsNew, GoesOn, StaysOrEnds};
 ghost use Rattle.sessions.specs.Under.{under, IsFresh};
 
 use edge_api::{Actor, Fed, Stage as Place, Step, Tag};
@@ -29,6 +31,38 @@ pub struct Session {
     kill: Option<u64>,
 }
 
+/// Takes the first of the later statements, under its tag, if there is one.
+fn take_first(
+    actor: u16,
+    next: &mut u32,
+    later: &mut VecDeque<Statement>,
+) -> Option<(Tag, Statement)>
+    requires numbers { next.old + length later.old.items < 4294967296 }
+    ensures first { IfSome result (λ first. (limit : ℕ) → plans_from actor limit next.old later.old.items ≡ record { tag = first.0; statement = first.1; limit = limit } ∷ plans_from actor limit next.new later.new.items) }
+    ensures tag { IfSome result (λ first. first.0 ≡ record { actor = actor; statement = next.old }) }
+    ensures next { IfSome result (λ first. next.new ≡ next.old + 1) }
+    ensures fewer { IfSome result (λ first. 1 + length later.new.items ≡ length later.old.items) }
+    ensures none { result ≡ None → (later.old.items ≡ []) × (later.new.items ≡ []) × (next.new ≡ next.old) }
+{
+    let statement = later.pop_front()?;
+    let tag = Tag {
+        actor,
+        statement: *next,
+    };
+    *next += 1;
+    Some((tag, statement))
+}
+
+/// A statement that is still to make its first call.
+fn begin_statement(alloc: Global, tag: Tag, statement: Statement, limit: u32) -> Txn
+    requires { IsLimit limit }
+    ensures started { Started (record { tag = tag; statement = statement; limit = limit }) result }
+    ensures limit { result.plan.limit ≡ limit }
+    ensures first { IfSome result.pending (λ call. place_of result.stage ≡ place.Between) }
+{
+    Txn::new(alloc, tag, statement, limit)
+}
+
 /// Begins the first of the later statements, if there is one.
 fn begin(
     alloc: Global,
@@ -48,13 +82,28 @@ fn begin(
     ensures fresh { IfSome result (IsNew next.old next.new) }
     ensures left { left_now result ≤ count_now result * (3 * limit + 2097201) }
 {
-    let statement = later.pop_front()?;
-    let tag = Tag {
-        actor,
-        statement: *next,
-    };
-    *next += 1;
-    Some(Txn::new(alloc, tag, statement, limit))
+    let (tag, statement) = take_first(actor, next, later)?;
+    Some(begin_statement(alloc, tag, statement, limit))
+}
+
+/// Adds the reply of a statement that is done.
+fn add_reply(replies: &mut Vec<Reply>, done: Txn)
+    requires ready { txn_specs.IsReady done }
+    requires done { done.pending ≡ None }
+    requires room { length replies.old.items < vec_capacity replies.old }
+    ensures replied { IsReplied done replies.old.items replies.new.items }
+    ensures long { length replies.new.items ≡ length replies.old.items + 1 }
+    ensures room { vec_capacity replies.old ≤ vec_capacity replies.new }
+{
+    replies.push(done.finish().reply).unwrap();
+}
+
+/// After how many more answers a session is killed, once it has one more.
+fn after_answer(kill: Option<u64>) -> Option<u64>
+    requires { HasCalls kill }
+    ensures { (n : ℕ) (killed : Bool) → Stops result n killed → Stops kill (1 + n) killed }
+{
+    Some(kill? - 1)
 }
 
 impl Session {
@@ -74,40 +123,54 @@ impl Session {
         ensures fresh { IfOk result (λ s. IsFresh actor (under s.current)) }
         ensures starts { IfOk result (λ s. (es : Entries) (all : List AReply) → Remains s es all → AnsweredTo kill (plans_from actor limit 1 statements.items) es all) }
     {
-        let replies = Vec::with_capacity(alloc, statements.len())?;
-        let mut later = VecDeque::from_vec(statements);
-        let mut next = 1;
-        let first = begin(alloc, actor, limit, &mut next, &mut later);
-        let mut session = Session {
-            alloc,
-            actor,
-            limit,
-            next,
-            later,
-            current: None,
-            replies,
-            kill,
-        };
-        session.start(first);
+        let mut session = Session::idle(alloc, actor, statements, limit, kill)?;
+        session.start();
         Ok(session)
     }
 
+    /// A session before its first statement.
+    fn idle(
+        alloc: Global,
+        actor: u16,
+        statements: Vec<Statement>,
+        limit: u32,
+        kill: Option<u64>,
+    ) -> Result<Session, NoMemory>
+        requires limit { IsLimit limit }
+        requires few { length statements.items ≤ 4096 }
+        ensures idle { IfOk result IsIdle }
+        ensures actor { IfOk result (λ s. s.actor ≡ actor) }
+        ensures kill { IfOk result (λ s. s.kill ≡ kill) }
+        ensures plans { IfOk result (λ s. later_plans s ≡ plans_from actor limit 1 statements.items) }
+    {
+        let replies = Vec::with_capacity(alloc, statements.len())?;
+        Ok(Session {
+            alloc,
+            actor,
+            limit,
+            next: 1,
+            later: VecDeque::from_vec(statements),
+            current: None,
+            replies,
+            kill,
+        })
+    }
+
     /// Sets out with the first statement, if there is one.
-    fn start(&mut self, first: Option<Txn>)
-        requires ready { IfSome first txn_specs.IsReady }
-        requires actor { IfSome first (λ t. t.plan.tag.actor ≡ self.old.actor) }
-        requires last { first ≡ None → self.old.later.items ≡ [] }
-        requires limit { IsLimit self.old.limit }
-        requires none { self.old.current ≡ None }
-        requires room { length self.old.replies.items + count_now first + length self.old.later.items ≤ vec_capacity self.old.replies }
-        requires numbers { self.old.next + length self.old.later.items < 4294967296 }
-        requires counted { IsCounted first self.old.next }
-        requires fresh { IfSome first (IsNew 1 self.old.next) }
+    fn start(&mut self)
+        requires { IsIdle self.old }
         ensures ready { IsReady self.new }
         ensures actor { self.new.actor ≡ self.old.actor }
         ensures fresh { IsFresh self.old.actor (under self.new.current) }
-        ensures starts { (es : Entries) (all : List AReply) → Remains self.new es all → (killed : Bool) × Stops self.old.kill (length es) killed × RestBy killed self.old.replies.items first (later_plans self.old) es all }
+        ensures starts { (es : Entries) (all : List AReply) → Remains self.new es all → AnsweredTo self.old.kill (later_plans self.old) es all }
     {
+        let first = begin(
+            self.alloc,
+            self.actor,
+            self.limit,
+            &mut self.next,
+            &mut self.later,
+        );
         if let Some(txn) = first {
             self.settle(txn);
             self.check();
@@ -128,6 +191,30 @@ impl Session {
         self.replies
     }
 
+    /// Whether a statement is under way whose calls may not be answered any more.
+    fn is_over(&self) -> bool
+        ensures over { IsTrue result → Stops self.now.kill 0 true × IsSome self.now.current }
+        ensures alive { IsFalse result → IsAlive self.now.kill self.now.current }
+    {
+        matches!(self.kill, Some(0)) && self.current.is_some()
+    }
+
+    /// Ends the session within the statement that is under way.
+    fn end(&mut self)
+        requires settled { IsSettled self.old }
+        requires some { IsSome self.old.current }
+        ensures ready { IsReady self.new }
+        ensures actor { self.new.actor ≡ self.old.actor }
+        ensures kill { self.new.kill ≡ self.old.kill }
+        ensures current { self.new.current ≡ None }
+        ensures later { self.new.later.items ≡ [] }
+        ensures replies { self.new.replies.items ≡ self.old.replies.items ++ Reply.Killed ∷ [] }
+    {
+        self.current = None;
+        self.replies.push(Reply::Killed).unwrap();
+        self.later.clear();
+    }
+
     /// Ends the session where no more calls may be answered.
     fn check(&mut self)
         requires { IsSettled self.old }
@@ -137,11 +224,8 @@ impl Session {
         ensures remains { (es : Entries) (all : List AReply) → Remains self.new es all → Remains self.old es all }
         ensures falls { left self.new ≤ left self.old }
     {
-        if let Some(0) = self.kill {
-            if self.current.take().is_some() {
-                self.replies.push(Reply::Killed).unwrap();
-                self.later.clear();
-            }
+        if self.is_over() {
+            self.end();
         }
     }
 
@@ -156,10 +240,8 @@ impl Session {
         ensures falls { left self.new ≤ left self.old }
     {
         if heard {
-            if let Some(left) = self.kill {
-                self.kill = Some(left - 1);
-                self.check();
-            }
+            self.kill = after_answer(self.kill);
+            self.check();
         }
     }
 
@@ -184,7 +266,7 @@ impl Session {
         ensures left { left_now result ≤ count_now result * (3 * self.old.limit + 2097201) }
         ensures turns { (killed : Bool) (es : Entries) (all : List AReply) → RestBy killed self.new.replies.items result (later_plans self.new) es all → RestBy killed self.old.replies.items (Some done) (later_plans self.old) es all }
     {
-        self.replies.push(done.finish().reply).unwrap();
+        add_reply(&mut self.replies, done);
         begin(
             self.alloc,
             self.actor,

@@ -1,4 +1,3 @@
-use Rattle.std.proofs.Common.{◌≡◌, ◌++◌, [], ◌∷◌}
 use Rattle.sessions.specs.Session.{later_plans, plans_from}
 use Rattle.sessions.proofs.Sessions.{settled}
 use Rattle.sessions.proofs.session.Session.turn.Goals as goal
@@ -6,5 +5,4 @@ use Rattle.sessions.proofs.session.Session.turn.Goals as goal
 pub returns-clause-turns : goal.returns-clause-turns
 returns-clause-turns c killed es all h =
     let self = c.args.self.now in
-    let grown : c.push.new.self.items ≡ self.replies.items ++ c.finish.result.reply ∷ [] = rw c.unwrap.ensures at c.push.ensures.items in
-    settled killed c.args.done (later_plans self) (plans_from self.actor self.limit c.begin.new.next c.begin.new.later.items) c.begin.result self.replies.items c.push.new.self.items c.finish.result.reply es all c.begin.ensures.begins c.finish.ensures grown h
+    settled killed c.args.done (later_plans self) (plans_from self.actor self.limit c.begin.new.next c.begin.new.later.items) c.begin.result self.replies.items c.add_reply.new.replies.items es all c.begin.ensures.begins c.add_reply.ensures.replied h
