@@ -2,7 +2,7 @@
 use Rattle.std.proofs.Common.{◌≡◌, ◌≢◌, ℕ, zero, suc, ◌+◌, ◌<◌, List, [], ◌∷◌, ◌++◌, length, get_or, drop, refl, sym, ◌∙◌, ap, subst, arith, append_assoc}
 use Rattle.std.proofs.lemmas.List.{append-nil}
 use Rattle.std.proofs.lemmas.Option.{slice_get_within, unwrap_or-slice_get}
-use Rattle.std.specs.Prelude.{Bool, true, false, unwrap_or, Option, Some, None, All, map, slice_get, Result, Ok, Err, IfOk}
+use Rattle.std.specs.Prelude.{Bool, true, false, unwrap_or, Option, Some, None, All, map, slice_get}
 use Rattle.edge_api.specs.declared.call.JournalEntry.{JournalEntry}
 use Rattle.edge_api.specs.Actor.{Event, Moves, Feeds, entries_of_events}
 use Rattle.edge_api.specs.World.{Grows}
@@ -20,7 +20,6 @@ use Rattle.actor_core.proofs.Owners.{of_actor-append, of_actor_all, of_actor_non
 use Rattle.actor_core.proofs.Pieces.{Told, entries-append, grows_more}
 use Rattle.sessions.specs.declared.session.Session.{Session}
 use Rattle.sessions.specs.Session.{Numbered, Goes, Remains, RestBy, Stops, AnsweredTo, IsReady, IsReadyNow, left, left_now, plans_from, later_plans}
-use Rattle.sessions.specs.Under.{under, IsFresh}
 use Rattle.session_runs.specs.Run.{AllReplied, Begins, AllBegin}
 
 abbrev pub number : Session → ℕ
@@ -81,12 +80,6 @@ begin_at limit k (x ∷ scripts) (y ∷ ss) h zero statements s at to =
 begin_at limit k (x ∷ scripts) (y ∷ ss) h (suc i) statements s at to =
     let same : suc k + i ≡ k + suc i = omega arith in
     subst (λ (n : ℕ). Begins n limit statements s) same (begin_at limit (suc k) scripts ss h.1 i statements s at to)
-
--- a session is begun as the function that makes it says
-pub begins_if_ok : {E : Type 0} (actor limit : ℕ) (statements : List Statement) (r : Result Session E) → IfOk r IsReady → IfOk r (λ s. s.actor ≡ actor) → IfOk r (λ s. IsFresh actor (under s.current))
-    → IfOk r (λ s. (es : Entries) (all : List Reply) → Remains s es all → AnsweredTo None (plans_from actor limit 1 statements) es all) → IfOk r (Begins actor limit statements)
-begins_if_ok actor limit statements (Ok s) ready number fresh answers = record { ready = ready; number = number; fresh = fresh; answers = answers }
-begins_if_ok actor limit statements (Err e) ready number fresh answers = tt
 
 -- one session more
 pub one_begun : (limit k : ℕ) (old rest all : List (List Statement)) (made news : List Session) (s : Session) (statements : List Statement) → Begins k limit statements s → old ≡ statements ∷ rest

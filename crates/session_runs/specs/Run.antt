@@ -5,6 +5,7 @@ use Rattle.edge_api.specs.declared.call.JournalEntry.{JournalEntry}
 use Rattle.edge_api.specs.declared.call.Tag.{Tag}
 use Rattle.edge_api.specs.Journal.{Moment, IsLegal, entries_of}
 use Rattle.edge_api.specs.World.{Grows}
+use Rattle.edge_api.specs.Actor.{Moves}
 use Rattle.row_base.specs.declared.row.Datum.{Datum}
 use Rattle.row_base.specs.declared.row.Datum.TheVariants as datum
 use Rattle.op_types.specs.declared.statement.Statement.{Statement}
@@ -12,9 +13,12 @@ use Rattle.op_types.specs.declared.statement.Statement.TheVariants.{Table, Inser
 use Rattle.op_types.specs.declared.statement.TableSpec.{TableSpec}
 use Rattle.op_types.specs.declared.reply.Reply.{Reply}
 use Rattle.actor_core.specs.declared.schedule.Item.{Item}
+use Rattle.actor_core.specs.declared.piece.Till.TheVariants.{End}
+use Rattle.actor_core.specs.Piece.{RunsPiece, RunsAlone}
+use Rattle.actor_core.specs.Schedule.{FollowsSchedule, TakesTurns}
 use Rattle.actor_core.specs.Entries.{of_actor}
 use Rattle.sessions.specs.declared.session.Session.{Session}
-use Rattle.sessions.specs.Session.{plans_from, AnsweredTo, Remains, IsReady}
+use Rattle.sessions.specs.Session.{plans_from, AnsweredTo, Remains, IsReady, Goes, place_now}
 use Rattle.sessions.specs.Under.{under, IsFresh}
 use Rattle.table_laws.specs.Conflicts.{Level}
 use Rattle.table_laws.specs.Folded.{RowsAreFolded}
@@ -87,6 +91,14 @@ abbrev pub AllBegin : ℕ → ℕ → List (List Statement) → List Session →
 AllBegin limit actor [] sessions = sessions ≡ []
 AllBegin limit actor (statements ∷ scripts) [] = ⊥
 AllBegin limit actor (statements ∷ scripts) (s ∷ sessions) = Begins actor limit statements s × AllBegin limit (suc actor) scripts sessions
+
+-- The journal has grown by the calls of the first session to its end, and then by those of the others in the order of the items, then of each to its end
+pub record RunsInOrder (items : List Item) (before after : Option (List JournalEntry)) (first first_end : Session) (others others_end : List Session) : Type 0 where
+  pub middle : Option (List JournalEntry)
+  pub first_runs : RunsPiece (Moves Goes (λ (s : Session). s.actor)) (λ (s : Session). place_now s.current) End before middle first first_end
+  pub first_alone : RunsAlone Goes (λ (s : Session). s.actor) before middle first first_end
+  pub others_follow : FollowsSchedule (Moves Goes (λ (s : Session). s.actor)) (λ (s : Session). place_now s.current) items middle after others others_end
+  pub others_turn : TakesTurns (Moves Goes (λ (s : Session). s.actor)) middle after others others_end
 
 -- Each version follows from the one before at both levels, no statement commits twice, and version 0 has no rows. Each commit above version 0 was put at
 -- each version above the one that was read, and lost only to other statements. Replies of commits and of rows say what was committed and what was read.

@@ -6,7 +6,7 @@ ghost use Rattle.edge_api.specs.Actor.{Moves};
 ghost use Rattle.actor_core.specs.Schedule.{FollowsSchedule, TakesTurns};
 ghost use Rattle.actor_core.specs.Faults.{FaultsAreCounted};
 ghost use Rattle.sessions.specs.Session.{IsLimit, IsReady, left, Goes, place_now};
-ghost use Rattle.session_runs.specs.Run.{IsPlain, Runs, IsSerial, Begins, AllBegin};
+ghost use Rattle.session_runs.specs.Run.{IsPlain, Runs, RunsInOrder, IsSerial, Begins, AllBegin};
 ghost use Rattle.session_runs.specs.Order.{FollowsItems};
 
 use actor_core::{Item, Till, run_piece, run_schedule};
@@ -27,7 +27,17 @@ fn begin_session(
     requires few { length statements.items ≤ 4096 }
     ensures { IfOk result (Begins actor limit statements.items) }
 {
-    Session::new(alloc, actor, statements, limit, None)
+    let session = Session::new(alloc, actor, statements, limit, None)?;
+    Ok(session)
+}
+
+/// The only statement of actor 0, which makes the table.
+fn table_statements(alloc: Global, table: TableSpec) -> Result<Vec<Statement>, NoMemory>
+    ensures { IfOk result (λ statements. statements.items ≡ Statement.Table table ∷ []) }
+{
+    let mut statements = Vec::with_capacity(alloc, 1)?;
+    statements.push(Statement::Table(table))?;
+    Ok(statements)
 }
 
 /// The session of actor 0, which makes the table.
@@ -35,8 +45,7 @@ fn table_session(alloc: Global, table: TableSpec, limit: u32) -> Result<Session,
     requires { IsLimit limit }
     ensures { IfOk result (Begins 0 limit (Statement.Table table ∷ [])) }
 {
-    let mut statements = Vec::with_capacity(alloc, 1)?;
-    statements.push(Statement::Table(table))?;
+    let statements = table_statements(alloc, table)?;
     begin_session(alloc, 0, statements, limit)
 }
 
@@ -73,6 +82,29 @@ fn run_others<W: World>(sessions: &mut Vec<Session>, world: &mut W, items: &[Ite
     ensures counted { FaultsAreCounted (W.journal world.old) (W.journal world.new) (W.faults world.old) (W.faults world.new) }
 {
     run_schedule(sessions, world, items);
+}
+
+/// Runs the first session to its end, and then the others in the order of the items.
+#[tactic(auto, using(actor_core::proofs::Faults::counted_more))]
+fn run_all<W: World>(
+    first: &mut Session,
+    others: &mut Vec<Session>,
+    world: &mut W,
+    items: &[Item],
+)
+    requires items { All (λ i. (0 < i.actor) × (i.actor ≤ length others.old.items)) items.now }
+    requires first { IsReady first.old }
+    requires others { All IsReady others.old.items }
+    ensures long { length others.new.items ≡ length others.old.items }
+    ensures first { IsReady first.new }
+    ensures others { All IsReady others.new.items }
+    ensures first_done { left first.new ≡ 0 }
+    ensures others_done { All (λ s. left s ≡ 0) others.new.items }
+    ensures order { RunsInOrder items.now (W.journal world.old) (W.journal world.new) first.old first.new others.old.items others.new.items }
+    ensures counted { FaultsAreCounted (W.journal world.old) (W.journal world.new) (W.faults world.old) (W.faults world.new) }
+{
+    run_piece(first, world, Till::End);
+    run_others(others, world, items);
 }
 
 /// Adds the replies of each session. It takes no memory.
@@ -113,8 +145,7 @@ pub fn run_program<W: World>(
     let mut replies = Vec::with_capacity(alloc, sessions.len() + 1)?;
     let mut first = table_session(alloc, table, limit)?;
     let mut others = make_sessions(alloc, sessions, limit)?;
-    run_piece(&mut first, world, Till::End);
-    run_others(&mut others, world, items);
+    run_all(&mut first, &mut others, world, items);
     replies
         .push(SessionReplies::make(first.into_replies()))
         .unwrap();
