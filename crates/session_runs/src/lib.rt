@@ -86,12 +86,7 @@ fn run_others<W: World>(sessions: &mut Vec<Session>, world: &mut W, items: &[Ite
 
 /// Runs the first session to its end, and then the others in the order of the items.
 #[tactic(auto, using(actor_core::proofs::Faults::counted_more))]
-fn run_all<W: World>(
-    first: &mut Session,
-    others: &mut Vec<Session>,
-    world: &mut W,
-    items: &[Item],
-)
+fn run_all<W: World>(first: &mut Session, others: &mut Vec<Session>, world: &mut W, items: &[Item])
     requires items { All (λ i. (0 < i.actor) × (i.actor ≤ length others.old.items)) items.now }
     requires first { IsReady first.old }
     requires others { All IsReady others.old.items }
