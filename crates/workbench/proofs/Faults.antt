@@ -1,14 +1,10 @@
--- Where reading ends in a fault other than want of memory, there is nothing to read.
-use Rattle.std.proofs.Common.{◌≡◌, ◌⊎◌, inl, inr, ℕ, ◌<◌, ◌≤◌, List, refl, sym, ap, ◌∙◌, arith, Result, Ok, Err}
-use Rattle.std.specs.Prelude.{IfOk}
+-- Values that were read of a hybrid are the ones that there are, and where reading fails there are none, unless memory ran out.
+use Rattle.std.proofs.Common.{◌≡◌, ◌⊎◌, inl, inr, ℕ, ◌<◌, ◌≤◌, List, refl, ap, ◌∙◌, arith}
 use Rattle.bit_pack.specs.Bits.{most_values}
 use Rattle.bit_pack.specs.Hybrid.{Reads, StopsAt, HasLargeHeader, EndsEarly, HasWideValue}
 use Rattle.bit_pack.specs.declared.fault.PackFault.{PackFault}
 use Rattle.bit_pack.specs.declared.fault.PackFault.TheVariants as packs
 use Rattle.bit_pack.proofs.OneReading.{one, no_stop, large_apart, short_apart, wide_apart}
-use Rattle.parquet_meta.specs.Faults.{FaultOf}
-use Rattle.parquet_meta.specs.declared.fault.FileFault.{FileFault}
-use Rattle.parquet_meta.specs.declared.fault.FileFault.TheVariants as faults
 use Rattle.workbench.specs.Reading.{checksum_from, values_text}
 
 -- values that were read are the ones that there are
@@ -35,23 +31,3 @@ no_values width count bytes values packs.Count P says wide large short reads = e
   | inr stops ↦ absurd (no_stop width count bytes values HasLargeHeader (λ rest len xs fails piece. large_apart fails piece) reads stops)
 ]
 no_values width count bytes values packs.NoMemory P says wide large short reads = says refl
-
--- the same of a file
-pub no_rows : {X : Type 0} (fault : FileFault) (r : Result X FileFault) (P : X → Type 0) (Q : Type 0) → (fault ≡ faults.NoMemory → Q) → FaultOf fault r → IfOk r (λ x. P x ⊎ Q)
-no_rows faults.Short r P Q says h = rw h tt
-no_rows faults.Magic r P Q says h = rw h tt
-no_rows faults.Footer r P Q says h = rw h tt
-no_rows (faults.Thrift at) r P Q says h = rw h tt
-no_rows (faults.Shape column) r P Q says h = rw h tt
-no_rows (faults.Page at) r P Q says h = rw h tt
-no_rows (faults.Codec codec) r P Q says h = rw h tt
-no_rows (faults.Encoding encoding) r P Q says h = rw h tt
-no_rows (faults.PageKind kind) r P Q says h = rw h tt
-no_rows (faults.Physical column) r P Q says h = rw h tt
-no_rows faults.Nested r P Q says h = rw h tt
-no_rows faults.NoMemory (Ok x) P Q says h = inr (says refl)
-no_rows faults.NoMemory (Err e) P Q says h = tt
-
--- what was read of a file
-pub rows_here : {X : Type 0} (r : Result X FileFault) (x : X) (P : X → Type 0) (Q : Type 0) → r ≡ Ok x → P x → IfOk r (λ x. P x ⊎ Q)
-rows_here r x P Q e h = rw e (inl h)

@@ -47,7 +47,7 @@ packed_one w values bytes small packs =
     let same : values ≡ fields w n 0 count = one_packed w bytes values (fields w n 0 count) (sym (length-fields w n 0 count)) packs.packed again in
     let none : n / 2 ^ (count * w) ≡ 0 = sym (number_of-rest (count * w) bytes small) ∙ packs.padded in
     let number : packed_number w values ≡ n = ap (λ (xs : List ℕ). packed_number w xs) same ∙ packed_number-fields w n 0 count
-        ∙ ap (λ j. n / 2 ^ j % 2 ^ (count * w)) (zero-mul w) ∙ no_high n (count * w) none in
+    ∙ ap (λ j. n / 2 ^ j % 2 ^ (count * w)) (zero-mul w) ∙ no_high n (count * w) none in
     rw (number, ← packs.fewest) (sym (bytes_again bytes small))
 
 pub unpacked_one : (w count : ℕ) (bytes values found : List ℕ) → length values ≡ count → Packs w values bytes → Unpacks w bytes count found → found ≡ values

@@ -1,21 +1,24 @@
 -- The rows of a table, one by one, and that their file is read as so many.
-use Rattle.std.proofs.Common.{◌≡◌, ℕ, zero, suc, ◌+◌, ◌/◌, ◌%◌, ◌^◌, ◌<◌, ◌≤◌, true, false, List, [], ◌∷◌, ◌++◌, length, map, get_or, refl, sym, ap, subst, ◌∙◌, arith, rules, zero-add, codes, lit<, Ok, IsUtf8, length-append}
+use Rattle.std.proofs.Common.{◌≡◌, ◌⊎◌, inl, inr, ℕ, zero, suc, ◌+◌, ◌/◌, ◌%◌, ◌^◌, ◌<◌, ◌≤◌, true, false, List, [], ◌∷◌, ◌++◌, length, map, get_or, refl, sym, ap, ◌∙◌, arith, rules, zero-add, codes, lit<, Ok, None, length-append}
 use Rattle.std.specs.Prelude.{pos, ◌==◌, FitsSigned}
 use Rattle.std.specs.Int.{w64}
 use Rattle.std.specs.Fmt.{decimal}
 use Rattle.std.specs.List.{All, range_with_len}
-use Rattle.std.proofs.lemmas.Bool.{cond_both}
+use Rattle.std.proofs.lemmas.Bool.{cond_both, cases_lt}
 use Rattle.std.proofs.lemmas.Fmt.{length-decimal-le}
 use Rattle.std.proofs.lemmas.List.{length-map}
 use Rattle.std.proofs.lemmas.List.Elements.{All-nil, All-cons}
 use Rattle.std.proofs.lemmas.List.FromFn.{map-range_with_len_more, length-map-range_with_len, get_or-map-range_with_len}
-use Rattle.row_base.specs.Schema.{TableSchema, IsSchema, FitsSchema}
+use Rattle.row_base.specs.Schema.{TableSchema, IsSchema, FitsSchema, datum_fault}
 use Rattle.row_base.specs.declared.row.Datum.{Datum}
 use Rattle.row_base.specs.declared.row.Datum.TheVariants as datum
 use Rattle.row_base.specs.declared.row.Kind.TheVariants as kind
 use Rattle.row_base.specs.declared.schema.Column.{Column}
 use Rattle.row_base.proofs.SchemaLemmas.{schema_sound}
+use Rattle.parquet_meta.specs.Faults.{FaultOf}
 use Rattle.parquet_meta.specs.Laws as meta
+use Rattle.parquet_meta.specs.declared.fault.FileFault.{FileFault}
+use Rattle.parquet_meta.specs.declared.fault.FileFault.TheVariants as faults
 use Rattle.parquet_pages.specs.Grammar.{IsText}
 use Rattle.parquet_pages.specs.ReadBack.{CanReturn}
 use Rattle.parquet_plain.specs.Reading.{file_rows}
@@ -24,10 +27,12 @@ use Rattle.parquet_plain.specs.Written.{file_text}
 use Rattle.parquet_plain.proofs.FileBack.{files_read_back}
 use Rattle.parquet_plain.proofs.FilesRead.{files_are_read}
 use Rattle.workbench.specs.Register.{next_state, state_after}
-use Rattle.workbench.specs.Tables.{column, columns_of, schema_of, word_of, words, flag_of, text_of, row_of, numbered_row, rows_of}
+use Rattle.workbench.specs.Tables.{column, columns_of, schema_of, word_of, words, flag_of, text_of, row_of, numbered_row, rows_of, IsFailure}
+use Rattle.workbench.specs.declared.failed.Failed.{Failed}
+use Rattle.workbench.specs.declared.failed.Failed.TheVariants as failed
 use Rattle.workbench.specs.declared.words.Table.{Table}
 use Rattle.workbench.specs.declared.words.Table.TheVariants as tables
-use Rattle.workbench.proofs.Plain.{is_plain, plain_both, plain_decimal, plain_utf8}
+use Rattle.workbench.proofs.Plain.{plain_both, plain_decimal, plain_utf8}
 use Rattle.workbench.proofs.States.{state_below}
 
 pub rows_more : (table : Table) (n state : ℕ) (row : List Datum) (rows : List (List Datum)) → rows ≡ rows_of table n → state ≡ state_after n
@@ -55,6 +60,10 @@ words_done n all done e = e ∙ ap (λ (k : ℕ). words_to k) done
 pub word_here : (place : ℕ) (other : List ℕ) → place < 100 → get_or words place other ≡ word_of place
 unfolding words
 word_here place other low = get_or-map-range_with_len word_of 0 100 place place other low (zero-add place)
+
+pub length-words : length words ≡ 100
+unfolding words
+length-words = length-map-range_with_len word_of 0 100
 
 -- ---- what a row holds can be read back
 
@@ -120,17 +129,89 @@ named tables.Words = All-cons IsNamed (column (codes "text") kind.String false) 
 named tables.Texts = All-cons IsNamed (column (codes "text") kind.String false) [] (record { short = lit< tt; utf8 = plain_utf8 (codes "text") refl }) (All-nil IsNamed)
 named tables.Booleans = All-cons IsNamed (column (codes "flag") kind.Boolean true) [] (record { short = lit< tt; utf8 = plain_utf8 (codes "flag") refl }) (All-nil IsNamed)
 
+-- ---- each row fits it
+
+longs_fit : (n state k : ℕ) (c : Column) (d : Datum) → k < 2 → datum_fault [] k (get_or (columns_of tables.Longs) k c) (get_or (row_of tables.Longs n state) k d) ≡ None
+longs_fit n state zero c d within = refl
+longs_fit n state (suc zero) c d within = refl
+longs_fit n state (suc (suc k)) c d within = absurd (omega arith)
+
+one_fits : (column : Column) (datum : Datum) → datum_fault [] 0 column datum ≡ None → FitsSchema (record { columns = column ∷ []; partition = [] }) (datum ∷ [])
+one_fits column datum fine = record { count = refl; each = each }
+  where
+    each : (k : ℕ) (c : Column) (d : Datum) → k < 1 → datum_fault [] k (get_or (column ∷ []) k c) (get_or (datum ∷ []) k d) ≡ None
+    each zero c d within = fine
+    each (suc k) c d within = absurd (omega arith)
+
+flag_fits : (n : ℕ) → datum_fault [] 0 (column (codes "flag") kind.Boolean true) (flag_of n) ≡ None
+flag_fits n = cond_both (n == 0) datum.Null (datum.Boolean (n == 1)) (λ (d : Datum). datum_fault [] 0 (column (codes "flag") kind.Boolean true) d ≡ None) (λ _. refl) (λ _. refl)
+
+row_fits : (table : Table) (n state : ℕ) → FitsSchema (schema_of table) (row_of table n state)
+row_fits tables.Longs n state = record { count = refl; each = longs_fit n state }
+row_fits tables.Words n state = one_fits (column (codes "text") kind.String false) (datum.Text (word_of (state % 100))) refl
+row_fits tables.Texts n state = one_fits (column (codes "text") kind.String false) (datum.Text (text_of n state)) refl
+row_fits tables.Booleans n state = one_fits (column (codes "flag") kind.Boolean true) (flag_of (state % 3)) (flag_fits (state % 3))
+
+rows_fit : (table : Table) (from count : ℕ) → All (FitsSchema (schema_of table)) (map (numbered_row table) (range_with_len from count))
+rows_fit table from zero = All-nil (FitsSchema (schema_of table))
+rows_fit table from (suc count) =
+    All-cons (FitsSchema (schema_of table)) (numbered_row table from) (map (numbered_row table) (range_with_len (from + 1) count))
+    (row_fits table from (state_after (suc from))) (rows_fit table (from + 1) count)
+
+all_fit : (table : Table) (count : ℕ) → All (FitsSchema (schema_of table)) (rows_of table count)
+unfolding rows_of
+all_fit table count = rows_fit table 0 count
+
+pub rows_here : (table : Table) (count : ℕ) (schema : TableSchema) (made : List (List Datum)) → schema ≡ schema_of table → made ≡ rows_of table count
+    → All (FitsSchema schema) made
+rows_here table count schema made s m = rw (s, m) (all_fit table count)
+
 -- ---- the file is read as so many rows
 
-pub back_count : (table : Table) (count : ℕ) (schema : TableSchema) (made rows : List (List Datum)) (file : List ℕ) → count < 2 ^ 32
-    → schema ≡ schema_of table → made ≡ rows_of table count → file ≡ file_text schema made → length made ≤ 16777216 → All (FitsSchema schema) made
-    → file_rows schema file ≡ Ok rows → length rows ≡ count
-back_count table count schema made rows file few s m e short fits found =
+file_back : (table : Table) (count : ℕ) → count < 2 ^ 32 → count ≤ 16777216 → length (file_text (schema_of table) (rows_of table count)) ≤ 67108864
+    → file_rows (schema_of table) (file_text (schema_of table) (rows_of table count)) ≡ Ok (map (nulled (schema_of table)) (rows_of table count))
+file_back table count low few small =
+    let made = rows_of table count in
+    files_read_back (schema_of table) made (schema_is table) (named table) (all_fit table count) (all_return table count low) (rw (length-rows_of table count) few) small
+
+pub back_count : (table : Table) (count : ℕ) (rows : List (List Datum)) (file : List ℕ) → count < 2 ^ 32 → count ≤ 16777216
+    → file ≡ file_text (schema_of table) (rows_of table count) → file_rows (schema_of table) file ≡ Ok rows → length rows ≡ count
+back_count table count rows file low few e found =
+    let schema = schema_of table in
+    let made = rows_of table count in
     let here : file_rows schema (file_text schema made) ≡ Ok rows = ap (λ (bs : List ℕ). file_rows schema bs) (sym e) ∙ found in
     let small : length (file_text schema made) ≤ 67108864 = ((files_are_read schema (file_text schema made) rows).0 here).footer.small in
-    let is : IsSchema schema = subst (λ (t : TableSchema). IsSchema t) (sym s) (schema_is table) in
-    let names : All IsNamed schema.columns = subst (λ (t : TableSchema). All IsNamed t.columns) (sym s) (named table) in
-    let returns : All (All CanReturn) made = subst (λ (rs : List (List Datum)). All (All CanReturn) rs) (sym m) (all_return table count few) in
-    let back : file_rows schema (file_text schema made) ≡ Ok (map (nulled schema) made) = files_read_back schema made is names fits returns short small in
+    let back : file_rows schema (file_text schema made) ≡ Ok (map (nulled schema) made) = file_back table count low few small in
     let same : rows ≡ map (nulled schema) made = cc in
-    ap (λ (rs : List (List Datum)). length rs) same ∙ length-map made (nulled schema) ∙ ap (λ (rs : List (List Datum)). length rs) m ∙ length-rows_of table count
+    ap (λ (rs : List (List Datum)). length rs) same ∙ length-map made (nulled schema) ∙ length-rows_of table count
+
+-- a file that isn't too long is read, unless memory ran out
+fault_found : (fault : FileFault) (rows : List (List Datum)) → FaultOf fault (Ok rows) → fault ≡ faults.NoMemory
+fault_found faults.Short rows h = cc
+fault_found faults.Magic rows h = cc
+fault_found faults.Footer rows h = cc
+fault_found (faults.Thrift at) rows h = cc
+fault_found (faults.Shape column) rows h = cc
+fault_found (faults.Page at) rows h = cc
+fault_found (faults.Codec codec) rows h = cc
+fault_found (faults.Encoding encoding) rows h = cc
+fault_found (faults.PageKind kind) rows h = cc
+fault_found (faults.Physical column) rows h = cc
+fault_found faults.Nested rows h = cc
+fault_found faults.NoMemory rows h = refl
+
+back_fault : (table : Table) (count : ℕ) (fault : FileFault) (file : List ℕ) → count < 2 ^ 32 → count ≤ 16777216
+    → file ≡ file_text (schema_of table) (rows_of table count) → FaultOf fault (file_rows (schema_of table) file) → IsFailure table count (failed.Parquet fault)
+back_fault table count fault file low few e h = elim (cases_lt 67108864 (length (file_text (schema_of table) (rows_of table count)))) [
+  | inl long ↦ inr long
+  | inr small ↦ inl (fault_found fault (map (nulled (schema_of table)) (rows_of table count)) (rw (e, file_back table count low few small) at h))
+]
+
+-- why reading gives nothing
+pub read_fails : (table : Table) (count : ℕ) (e : Failed) (file : List ℕ) → count < 2 ^ 32 → count ≤ 16777216
+    → file ≡ file_text (schema_of table) (rows_of table count)
+    → (e ≡ failed.NoMemory) ⊎ ((fault : FileFault) × (e ≡ failed.Parquet fault) × FaultOf fault (file_rows (schema_of table) file)) → IsFailure table count e
+read_fails table count e file low few is h = elim h [
+  | inl wanting ↦ rw wanting tt
+  | inr found ↦ rw found.1 (back_fault table count found.0 file low few is found.2)
+]

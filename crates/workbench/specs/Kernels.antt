@@ -1,8 +1,12 @@
 -- What the kernels that are timed give.
-use Rattle.std.specs.Prelude.{ℕ, zero, suc, ◌+◌, ◌*◌, ◌/◌, ◌%◌, ◌^◌, List, length, map, slice_get, min, Option, Some, None}
+use Rattle.std.specs.Prelude.{◌≡◌, ◌⊎◌, ℕ, zero, suc, ◌<◌, ◌≤◌, ◌+◌, ◌*◌, ◌/◌, ◌%◌, ◌^◌, List, length, map, slice_get, min, Option, Some, None}
 use Rattle.std.specs.List.{range_with_len}
 use Rattle.bit_pack.specs.Numbers.{packed_number, bytes_of}
+use Rattle.bit_pack.specs.declared.fault.PackFault.TheVariants as packs
+use Rattle.log_actions.specs.Commit.{max_bytes}
 use Rattle.log_actions.specs.Written.{text_of}
+use Rattle.workbench.specs.declared.failed.Failed.{Failed}
+use Rattle.workbench.specs.declared.failed.Failed.TheVariants as failed
 use Rattle.workbench.specs.declared.words.Kernel.{Kernel}
 use Rattle.workbench.specs.declared.words.Kernel.TheVariants as kernels
 use Rattle.workbench.specs.Commits.{adds}
@@ -43,3 +47,11 @@ answer_of (kernels.Pack width) runs = checksum_of (packed width (values_of width
 answer_of kernels.LogWrite count = length (text_of (adds count))
 answer_of kernels.LogRead count = count
 answer_of (kernels.Parquet step table) count = tables.answer_of step table count
+
+-- why a kernel gives nothing: memory ran out, or a commit or a file is too long
+abbrev pub IsFailure : Kernel → ℕ → Failed → Type 0
+IsFailure (kernels.Unpack width) runs e = width ≤ 32 → e ≡ failed.Kernel packs.NoMemory
+IsFailure (kernels.Pack width) runs e = width ≤ 32 → e ≡ failed.Kernel packs.NoMemory
+IsFailure kernels.LogWrite count e = e ≡ failed.NoMemory
+IsFailure kernels.LogRead count e = (e ≡ failed.NoMemory) ⊎ ((e ≡ failed.Line 1) × (max_bytes < length (text_of (adds count))))
+IsFailure (kernels.Parquet step table) count e = tables.IsFailure table count e

@@ -1,5 +1,5 @@
 -- What a Parquet file reads as, for a table of its own columns (parquet.thrift, Type and ConvertedType).
-use Rattle.std.specs.Prelude.{◌≡◌, ◌⊎◌, ℕ, ◌%◌, ◌^◌, if◌then◌else◌, Bool, true, false, ℤ, pos, Option, Some, None, Result, Ok, Err, IfOk, List, [], ◌++◌, length, count_by, sum_by, filter_map, codes}
+use Rattle.std.specs.Prelude.{◌≡◌, ◌⊎◌, ℕ, ◌%◌, ◌^◌, if◌then◌else◌, Bool, true, false, ℤ, pos, Option, Some, None, Result, Ok, IfOk, List, [], ◌++◌, length, count_by, sum_by, filter_map, codes}
 use Rattle.std.specs.Fmt.{decimal}
 use Rattle.std.specs.Ordering.{int_eq}
 use Rattle.row_base.specs.Schema.{TableSchema, schema_fault}
@@ -12,7 +12,6 @@ use Rattle.row_base.specs.declared.schema.SchemaFault.{SchemaFault}
 use Rattle.parquet_meta.specs.Faults.{◌>>=◌}
 use Rattle.parquet_meta.specs.Footer.{footer_of}
 use Rattle.parquet_meta.specs.declared.fault.FileFault.{FileFault}
-use Rattle.parquet_meta.specs.declared.fault.FileFault.TheVariants as faults
 use Rattle.parquet_meta.specs.declared.meta.SchemaElement.{SchemaElement}
 use Rattle.parquet_plain.specs.Reading.{file_rows}
 use Rattle.parquet_plain.specs.Tree.{is_optional}

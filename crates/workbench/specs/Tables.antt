@@ -1,5 +1,5 @@
 -- The tables whose Parquet files are timed.
-use Rattle.std.specs.Prelude.{◌≡◌, ℕ, suc, ◌/◌, ◌%◌, ◌==◌, if◌then◌else◌, Bool, true, false, List, [], ◌∷◌, ◌++◌, length, map, pos, codes}
+use Rattle.std.specs.Prelude.{◌≡◌, ◌⊎◌, ℕ, suc, ◌<◌, ◌/◌, ◌%◌, ◌==◌, if◌then◌else◌, Bool, true, false, List, [], ◌∷◌, ◌++◌, length, map, pos, codes}
 use Rattle.std.specs.Fmt.{decimal}
 use Rattle.std.specs.List.{range_with_len}
 use Rattle.row_base.specs.Schema.{TableSchema}
@@ -8,8 +8,11 @@ use Rattle.row_base.specs.declared.row.Datum.TheVariants as datum
 use Rattle.row_base.specs.declared.row.Kind.{Kind}
 use Rattle.row_base.specs.declared.row.Kind.TheVariants as kind
 use Rattle.row_base.specs.declared.schema.Column.{Column}
+use Rattle.parquet_meta.specs.declared.fault.FileFault.TheVariants as faults
 use Rattle.parquet_plain.specs.Written.{file_text}
 use Rattle.workbench.specs.Register.{state_after}
+use Rattle.workbench.specs.declared.failed.Failed.{Failed}
+use Rattle.workbench.specs.declared.failed.Failed.TheVariants as failed
 use Rattle.workbench.specs.declared.words.Step.{Step}
 use Rattle.workbench.specs.declared.words.Step.TheVariants as steps
 use Rattle.workbench.specs.declared.words.Table.{Table}
@@ -70,3 +73,14 @@ answer_of steps.Rows table count = count
 answer_of steps.Write table count = length (file_text (schema_of table) (rows_of table count))
 answer_of steps.Copy table count = length (file_text (schema_of table) (rows_of table count))
 answer_of steps.Read table count = count
+
+-- why nothing is given: memory ran out, a file doesn't hold so many rows, or what was written is too long to be read
+abbrev pub IsFailure : Table → ℕ → Failed → Type 0
+IsFailure table count failed.NoMemory = Unit {0}
+IsFailure table count failed.Rows = 16777216 < count
+IsFailure table count (failed.Parquet fault) = (fault ≡ faults.NoMemory) ⊎ (67108864 < length (file_text (schema_of table) (rows_of table count)))
+IsFailure table count (failed.Words fault) = ⊥
+IsFailure table count (failed.Kernel fault) = ⊥
+IsFailure table count (failed.Line line) = ⊥
+IsFailure table count (failed.File fault) = ⊥
+IsFailure table count (failed.Print fault) = ⊥

@@ -7,7 +7,9 @@ ghost use Rattle.log_actions.specs.Written.{text_of};
 ghost use Rattle.workbench.specs.Commits as spec;
 
 use crate::failed::Failed;
-use log_actions::{Action, AddFile, LogFault, LogFaultKind, PartitionMap, read_commit, write_commit};
+use log_actions::{
+    Action, AddFile, LogFault, LogFaultKind, PartitionMap, read_commit, write_commit,
+};
 use row_base::{NoMemory, Text};
 use std::alloc::{AllocError, Global};
 

@@ -15,7 +15,8 @@ const COUNT: usize = 1 << 22;
 
 /// The checksum of so many runs of a kernel, or what it counts of so many rows or added files.
 pub fn run(alloc: Global, kernel: Kernel, number: u32) -> Result<u64, Failed>
-    ensures { IfOk result (λ answer. answer ≡ spec.answer_of kernel number) }
+    ensures ok { IfOk result (λ answer. answer ≡ spec.answer_of kernel number) }
+    ensures err { IfErr result (spec.IsFailure kernel number) }
 {
     match kernel {
         Kernel::Unpack(width) => Ok(run_unpack(alloc, width, number)?),

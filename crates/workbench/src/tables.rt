@@ -1,9 +1,9 @@
 //! Tables whose Parquet files are timed.
 
-ghost use Rattle.std.specs.Prelude.{◌≡◌, ◌≤◌, ◌%◌, ◌∷◌, [], ◌↔◌, IsTrue, IfOk, OnOk, Ok, List, length, string_bytes};
-ghost use Rattle.std.specs.List.{All};
-ghost use Rattle.row_base.specs.Schema.{FitsSchema};
+ghost use Rattle.std.specs.Prelude.{◌≡◌, ◌⊎◌, ◌<◌, ◌≤◌, ◌%◌, ◌∷◌, [], IfOk, IfErr, OnOk, Ok, List, length, string_bytes};
 ghost use Rattle.row_base.specs.declared.row.Datum.{Datum as DatumValue};
+ghost use Rattle.parquet_meta.specs.Faults.{FaultOf};
+ghost use Rattle.parquet_meta.specs.declared.fault.FileFault.{FileFault};
 ghost use Rattle.parquet_plain.specs.Reading.{file_rows};
 ghost use Rattle.parquet_plain.specs.Written.{file_text};
 ghost use Rattle.workbench.specs.Tables as spec;
@@ -16,7 +16,7 @@ use row_base::{Column, Datum, Kind, NoMemory, Row, Schema, Text};
 use std::alloc::{AllocError, Global};
 
 /// The most rows of a file.
-const MOST_ROWS: usize = 16_777_216;
+const MOST_ROWS: u32 = 16_777_216;
 
 /// How many texts the table of repeated texts has.
 const WORDS: u64 = 100;
@@ -26,29 +26,29 @@ const MOST_DATA: usize = 2;
 
 /// Makes so many rows of a table, and goes on from there as far as the step says; gives the number of bytes or rows.
 pub fn run(alloc: Global, step: Step, table: Table, count: u32) -> Result<u64, Failed>
-    ensures { IfOk result (λ answer. answer ≡ spec.answer_of step table count) }
+    ensures ok { IfOk result (λ answer. answer ≡ spec.answer_of step table count) }
+    ensures err { IfErr result (spec.IsFailure table count) }
 {
-    let schema = schema_of(alloc, table)?;
-    let rows = rows_of(alloc, table, count)?;
     match step {
-        Step::Rows => Ok(rows.len() as u64),
-        Step::Write => Ok(file_of(alloc, &schema, rows)?.len() as u64),
-        Step::Copy => Ok(copy_of(alloc, &file_of(alloc, &schema, rows)?)?.len() as u64),
-        Step::Read => Ok(count_rows(alloc, &schema, &file_of(alloc, &schema, rows)?)?),
+        Step::Rows => Ok(rows_of(alloc, table, count)?.len() as u64),
+        Step::Write => Ok(file_of(alloc, table, count)?.len() as u64),
+        Step::Copy => Ok(copy_of(alloc, &file_of(alloc, table, count)?)?.len() as u64),
+        Step::Read => Ok(count_rows(alloc, table, &file_of(alloc, table, count)?)?),
     }
 }
 
-/// The file of rows, where a file holds them.
-fn file_of(alloc: Global, schema: &Schema, rows: Vec<Row>) -> Result<Vec<u8>, Failed>
-    ensures text { IfOk result (λ bytes. bytes.items ≡ file_text schema.now rows.items) }
-    ensures few { OnOk result (length rows.items ≤ 16777216) }
-    ensures fit { OnOk result (All (FitsSchema schema.now) rows.items) }
+/// The file of so many rows of a table, where a file holds as many.
+fn file_of(alloc: Global, table: Table, count: u32) -> Result<Vec<u8>, Failed>
+    ensures text { IfOk result (λ bytes. bytes.items ≡ file_text (spec.schema_of table) (spec.rows_of table count)) }
+    ensures few { OnOk result (count ≤ 16777216) }
+    ensures err { IfErr result (λ e. (e ≡ Failed.NoMemory) ⊎ ((e ≡ Failed.Rows) × (16777216 < count))) }
 {
-    if rows.len() <= MOST_ROWS && all_fit(schema, rows.as_slice()) {
-        Ok(write_file(alloc, schema, rows.as_slice())?)
-    } else {
-        Err(Failed::Rows)
+    if count > MOST_ROWS {
+        return Err(Failed::Rows);
     }
+    let schema = schema_of(alloc, table)?;
+    let rows = rows_of(alloc, table, count)?;
+    Ok(write_file(alloc, &schema, rows.as_slice())?)
 }
 
 /// A copy of bytes.
@@ -60,41 +60,28 @@ fn copy_of(alloc: Global, bytes: &[u8]) -> Result<Vec<u8>, AllocError>
     Ok(copy)
 }
 
-/// How many rows a file reads as.
-fn count_rows(alloc: Global, schema: &Schema, bytes: &[u8]) -> Result<u64, Failed>
-    ensures { IfOk result (λ count. (rows : List (List DatumValue)) × (file_rows schema.now bytes.now ≡ Ok rows) × (count ≡ length rows)) }
+/// How many rows of a table a file reads as.
+fn count_rows(alloc: Global, table: Table, bytes: &[u8]) -> Result<u64, Failed>
+    ensures ok { IfOk result (λ count. (rows : List (List DatumValue)) × (file_rows (spec.schema_of table) bytes.now ≡ Ok rows) × (count ≡ length rows)) }
+    ensures err { IfErr result (λ e. (e ≡ Failed.NoMemory) ⊎ ((fault : FileFault) × (e ≡ Failed.Parquet fault) × FaultOf fault (file_rows (spec.schema_of table) bytes.now))) }
 {
-    let rows = read_file(alloc, schema, bytes).map_err(Failed::Parquet)?;
-    Ok(rows.len() as u64)
-}
-
-/// Whether a row fits.
-fn fits(schema: &Schema, row: &Row) -> bool
-    ensures { IsTrue result ↔ FitsSchema schema.now row.now }
-{
-    schema.fits(row).is_ok()
-}
-
-/// Whether each row fits.
-fn all_fit(schema: &Schema, rows: &[Row]) -> bool
-    ensures { IsTrue result ↔ All (FitsSchema schema.now) rows.now }
-{
-    rows.iter().all(|row| fits(schema, row))
-}
-
-/// The schema of a table.
-fn schema_of(alloc: Global, table: Table) -> Result<Schema, Failed>
-    ensures { IfOk result (λ schema. schema ≡ spec.schema_of table) }
-{
-    let columns = columns_of(alloc, table)?;
-    match Schema::make(columns, Vec::new(alloc)) {
-        Ok(schema) => Ok(schema),
-        Err(_) => Err(Failed::Rows),
+    let schema = schema_of(alloc, table)?;
+    match read_file(alloc, &schema, bytes) {
+        Ok(rows) => Ok(rows.len() as u64),
+        Err(fault) => Err(Failed::Parquet(fault)),
     }
 }
 
+/// The schema of a table.
+fn schema_of(alloc: Global, table: Table) -> Result<Schema, NoMemory>
+    ensures { IfOk result (λ schema. schema ≡ spec.schema_of table) }
+{
+    let columns = columns_of(alloc, table)?;
+    Ok(Schema::make(columns, Vec::new(alloc)).unwrap())
+}
+
 /// The columns of a table.
-fn columns_of(alloc: Global, table: Table) -> Result<Vec<Column>, Failed>
+fn columns_of(alloc: Global, table: Table) -> Result<Vec<Column>, NoMemory>
     ensures { IfOk result (λ columns. columns.items ≡ spec.columns_of table) }
 {
     let mut columns = Vec::new(alloc);
@@ -121,7 +108,7 @@ fn column(alloc: Global, name: &str, kind: Kind, nullable: bool) -> Result<Colum
 
 /// So many rows of a table.
 #[tactic(auto, unfolding(crate::specs::Tables::rows_of, crate::specs::Register::state_after))]
-fn rows_of(alloc: Global, table: Table, count: u32) -> Result<Vec<Row>, Failed>
+fn rows_of(alloc: Global, table: Table, count: u32) -> Result<Vec<Row>, NoMemory>
     ensures { IfOk result (λ rows. rows.items ≡ spec.rows_of table count) }
 {
     let words = words_of(alloc)?;
@@ -135,7 +122,7 @@ fn rows_of(alloc: Global, table: Table, count: u32) -> Result<Vec<Row>, Failed>
 }
 
 /// The texts of the table of repeated texts.
-fn words_of(alloc: Global) -> Result<Vec<Text>, Failed>
+fn words_of(alloc: Global) -> Result<Vec<Text>, NoMemory>
     ensures { IfOk result (λ words. words.items ≡ spec.words) }
 {
     let mut words = Vec::with_capacity(alloc, WORDS as usize)?;
@@ -152,27 +139,37 @@ fn word_of(alloc: Global, number: u64) -> Result<String, AllocError>
 }
 
 /// The row of a number and a state of the shift register.
-fn row_of(alloc: Global, table: Table, number: u32, state: u64, words: &[Text]) -> Result<Row, Failed>
+fn row_of(
+    alloc: Global,
+    table: Table,
+    number: u32,
+    state: u64,
+    words: &[Text],
+) -> Result<Row, NoMemory>
     requires { words.now ≡ spec.words }
     ensures { IfOk result (λ row. row ≡ spec.row_of table number state) }
 {
     match table {
-        Table::Longs => pair(alloc, Datum::Long(i64::from(number)), Datum::Long((state / 2) as i64)),
+        Table::Longs => pair(
+            alloc,
+            Datum::Long(i64::from(number)),
+            Datum::Long((state / 2) as i64),
+        ),
         Table::Words => single(alloc, Datum::Text(word_at(words, state)?)),
-        Table::Texts => single(alloc, Datum::Text(Text::from_string(text_of(alloc, number, state)?)?)),
+        Table::Texts => single(
+            alloc,
+            Datum::Text(Text::from_string(text_of(alloc, number, state)?)?),
+        ),
         Table::Booleans => single(alloc, flag_of(state)),
     }
 }
 
 /// The word that a state picks.
-fn word_at(words: &[Text], state: u64) -> Result<Text, Failed>
+fn word_at(words: &[Text], state: u64) -> Result<Text, NoMemory>
     requires { words.now ≡ spec.words }
     ensures { IfOk result (λ word. word ≡ spec.word_of (state % 100)) }
 {
-    match words.get((state % WORDS) as usize) {
-        Some(word) => Ok(word.copy()?),
-        None => Err(Failed::Rows),
-    }
+    words[(state % WORDS) as usize].copy()
 }
 
 /// A text that no other row has.
@@ -193,7 +190,7 @@ fn flag_of(state: u64) -> Datum
 }
 
 /// A row of one datum.
-fn single(alloc: Global, datum: Datum) -> Result<Row, Failed>
+fn single(alloc: Global, datum: Datum) -> Result<Row, NoMemory>
     ensures { IfOk result (λ row. row ≡ datum ∷ []) }
 {
     let mut row = Vec::with_capacity(alloc, MOST_DATA)?;
@@ -202,7 +199,7 @@ fn single(alloc: Global, datum: Datum) -> Result<Row, Failed>
 }
 
 /// A row of two data.
-fn pair(alloc: Global, first: Datum, second: Datum) -> Result<Row, Failed>
+fn pair(alloc: Global, first: Datum, second: Datum) -> Result<Row, NoMemory>
     ensures { IfOk result (λ row. row ≡ first ∷ second ∷ []) }
 {
     let mut row = Vec::with_capacity(alloc, MOST_DATA)?;

@@ -1,4 +1,4 @@
-use Rattle.std.proofs.Common.{◌≡◌, ◌∙◌, arith}
+use Rattle.std.proofs.Common.{◌∙◌, arith}
 use Rattle.workbench.proofs.Adds.{adds_next, text_says}
 use Rattle.workbench.proofs.commits.commit_text.Goals as goal
 
