@@ -15,7 +15,9 @@ import sys
 import tempfile
 
 HERE = pathlib.Path(__file__).resolve().parent
-PROVED = HERE.parent.parent / "crates" / "workbench" / "out" / "workbench"
+sys.path.insert(0, str(HERE.parent))
+from measure import PROGRAM, best_runs, keep_one_processor, processor
+
 COUNT = 1 << 22
 FEW, MANY, TRIES = 1, 21, 9
 LEAST = 0.8
@@ -23,48 +25,33 @@ KERNELS = [f"{way}-{width}" for way in ("unpack", "pack") for width in (1, 7, 13
 
 
 def compile_baseline(folder):
+    """The plain loops, compiled."""
     program = f"{folder}/baseline"
     subprocess.run(["rustc", "-O", "--edition", "2021", "-o", program, str(HERE / "baseline.rs")], check=True)
     return program
 
 
-def seconds(program, kernel, runs):
-    child = subprocess.Popen([program, "time", kernel, str(runs)], stdout=subprocess.PIPE, text=True)
-    text = child.stdout.read()
-    _, status, used = os.wait4(child.pid, 0)
-    child.returncode = os.waitstatus_to_exitcode(status)
-    if child.returncode:
-        sys.exit(f"{program} ended with status {child.returncode}")
-    return used.ru_utime + used.ru_stime, text
+def speed(few, many):
+    """Values a second, by the runs that the one has more than the other."""
+    return COUNT * (MANY - FEW) / (many.seconds - few.seconds)
 
 
 def measure(programs, kernel):
-    best, texts = {}, {}
-    for _ in range(TRIES):
-        for program in programs:
-            for runs in (FEW, MANY):
-                taken, texts[program] = seconds(program, kernel, runs)
-                best[program, runs] = min(taken, best.get((program, runs), taken))
-    speeds = [COUNT * (MANY - FEW) / (best[program, MANY] - best[program, FEW]) for program in programs]
-    return speeds, len(set(texts.values())) == 1
-
-
-def processor():
-    for line in open("/proc/cpuinfo"):
-        if line.startswith("model name"):
-            return line.split(":", 1)[1].strip()
-    return "unknown"
+    """The speeds of the proved program and of the baseline, and whether they print the same checksums."""
+    commands = [[program, "time", kernel, str(runs)] for program in programs for runs in (FEW, MANY)]
+    few, many, plain_few, plain_many = best_runs(TRIES, commands)
+    same = (few.text, many.text) == (plain_few.text, plain_many.text)
+    return speed(few, many), speed(plain_few, plain_many), same
 
 
 def main():
-    core = max(os.sched_getaffinity(0))
-    os.sched_setaffinity(0, {core})
+    keep_one_processor()
     print(f"processor: {processor()}, load {os.getloadavg()[0]:.0f}")
     well = True
     with tempfile.TemporaryDirectory() as folder:
-        programs = [str(PROVED), compile_baseline(folder)]
+        programs = [PROGRAM, compile_baseline(folder)]
         for kernel in sys.argv[1:] or KERNELS:
-            (ours, theirs), same = measure(programs, kernel)
+            ours, theirs, same = measure(programs, kernel)
             well = well and same and ours >= LEAST * theirs
             said = "same checksum" if same else "CHECKSUMS DIFFER"
             print(f"{kernel}: {ours / 1e6:.0f} and {theirs / 1e6:.0f} million values a second, ratio {ours / theirs:.2f}, {said}", flush=True)

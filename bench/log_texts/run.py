@@ -11,51 +11,33 @@ import pathlib
 import subprocess
 import sys
 
-FOLDER = pathlib.Path(__file__).resolve().parent.parent.parent / "crates" / "workbench"
-PROVED = FOLDER / "out" / "workbench"
+sys.path.insert(0, str(pathlib.Path(__file__).resolve().parent.parent))
+from measure import PROGRAM, WORKBENCH, best_runs, growth, keep_one_processor, processor
+
 COUNTS = (10_000, 20_000)
 TRIES = 15
 MOST_GROWTH = 2.2
 
 
-def seconds(kernel, count):
-    """The processor time of one run, and the number that it prints."""
-    child = subprocess.Popen([str(PROVED), "time", kernel, str(count)], stdout=subprocess.PIPE, text=True)
-    printed = int(child.stdout.read())
-    _, status, used = os.wait4(child.pid, 0)
-    child.returncode = os.waitstatus_to_exitcode(status)
-    if child.returncode:
-        sys.exit(f"{PROVED} ended with status {child.returncode}")
-    return used.ru_utime + used.ru_stime, printed
-
-
-def best(kernel, count):
-    return min(seconds(kernel, count) for _ in range(TRIES))
-
-
-def processor():
-    for line in open("/proc/cpuinfo"):
-        if line.startswith("model name"):
-            return line.split(":", 1)[1].strip()
-    return "unknown"
+def measure(count):
+    """The times of writing and of reading alone, the number of bytes and the number of actions."""
+    write, both = best_runs(TRIES, [[PROGRAM, "time", kernel, str(count)] for kernel in ("log-write", "log-read")])
+    return write.seconds, both.seconds - write.seconds, int(write.text), int(both.text)
 
 
 def said(taken, size, before):
-    growth = "" if before is None else f"{taken / before:.2f}"
-    return f"{taken * 1000:.0f} ms | {size / taken / 1e6:.0f} MB/s | {growth}"
+    return f"{taken * 1000:.0f} ms | {size / taken / 1e6:.0f} MB/s | {growth(taken, before)}"
 
 
 def main():
-    subprocess.run(["rt", "run", "--", "time", "log-write", "1"], cwd=FOLDER, check=True, stdout=subprocess.DEVNULL)
-    os.sched_setaffinity(0, {max(os.sched_getaffinity(0))})
+    subprocess.run(["rt", "run", "--", "time", "log-write", "1"], cwd=WORKBENCH, check=True, stdout=subprocess.DEVNULL)
+    keep_one_processor()
     print(f"processor: {processor()}, load {os.getloadavg()[0]:.0f}\n")
     print("| Adds | Text | Made and written | Speed | Growth | Read | Speed | Growth |")
     print("|---|---|---|---|---|---|---|---|")
     well, write_before, read_before = True, None, None
     for count in COUNTS:
-        write, size = best("log-write", count)
-        both, actions = best("log-read", count)
-        read = both - write
+        write, read, size, actions = measure(count)
         print(f"| {count} | {size / 1e6:.1f} MB | {said(write, size, write_before)} | {said(read, size, read_before)} |", flush=True)
         well = well and actions == count
         if write_before is not None:

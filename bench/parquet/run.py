@@ -9,47 +9,32 @@ Everything is done at half the rows too. The exit status is 1 where twice the ro
 """
 import os
 import pathlib
-import subprocess
 import sys
 
-PROGRAM = pathlib.Path(__file__).resolve().parent.parent.parent / "crates" / "workbench" / "out" / "workbench"
+sys.path.insert(0, str(pathlib.Path(__file__).resolve().parent.parent))
+from measure import PROGRAM, best_runs, keep_one_processor, processor
+
 TABLES = {"longs": "two columns of longs", "words": "100 distinct texts", "texts": "texts without repeats", "booleans": "booleans and nulls"}
 STEPS = ("rows", "write", "copy", "read")
 TRIES, MOST_GROWTH = 5, 2.2
 
 
-def run(step, table, rows):
-    """The processor time in seconds, the printed number, and the peak memory in MB."""
-    child = subprocess.Popen([str(PROGRAM), "time", f"parquet-{step}-{table}", str(rows)], stdout=subprocess.PIPE, text=True)
-    text = child.stdout.read()
-    _, status, used = os.wait4(child.pid, 0)
-    child.returncode = os.waitstatus_to_exitcode(status)
-    if child.returncode:
-        sys.exit(f"{step} {table} ended with status {child.returncode}")
-    return used.ru_utime + used.ru_stime, int(text), used.ru_maxrss / 1024
-
-
 def measure(table, rows):
-    best = {}
-    for _ in range(TRIES):
-        for step in STEPS:
-            taken = run(step, table, rows)
-            best[step] = min(taken, best.get(step, taken))
-    size = best["write"][1]
-    times = {"write": best["write"][0] - best["rows"][0], "copy": best["copy"][0] - best["write"][0], "read": best["read"][0] - best["write"][0]}
-    return times, size, {step: best[step][2] for step in STEPS}
-
-
-def processor():
-    for line in open("/proc/cpuinfo"):
-        if line.startswith("model name"):
-            return line.split(":", 1)[1].strip()
-    return "unknown"
+    """The time of each step alone, the number of bytes of the file, and the peak memory up to each step."""
+    commands = [[PROGRAM, "time", f"parquet-{step}-{table}", str(rows)] for step in STEPS]
+    made, written, copied, read = best_runs(TRIES, commands)
+    times = {
+        "write": written.seconds - made.seconds,
+        "copy": copied.seconds - written.seconds,
+        "read": read.seconds - written.seconds,
+    }
+    memory = {"rows": made.megabytes, "write": written.megabytes, "read": read.megabytes}
+    return times, int(written.text), memory
 
 
 def main():
     rows = int(sys.argv[1]) if len(sys.argv) > 1 else 1_000_000
-    os.sched_setaffinity(0, {max(os.sched_getaffinity(0))})
+    keep_one_processor()
     print(f"processor: {processor()} ({os.cpu_count()} cores), load {os.getloadavg()[0]:.0f}, {rows} rows")
     print("| Table | File | Step | Time | Rows a second | Bytes a second | Copies of the bytes | Growth | Peak memory |")
     print("|---|---|---|---|---|---|---|---|---|")

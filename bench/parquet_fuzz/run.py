@@ -20,8 +20,9 @@ import tempfile
 
 from seeds import seeds
 
-HERE = pathlib.Path(__file__).resolve().parent
-READER = HERE.parent.parent / "crates" / "workbench" / "out" / "workbench"
+sys.path.insert(0, str(pathlib.Path(__file__).resolve().parent.parent))
+from measure import PROGRAM
+
 SECONDS, BYTES, MOST_BAD = 10, 4 << 30, 10
 HUGE = [b"\xff\xff\xff\xff\x0f", b"\xfe\xff\xff\xff\x0f", b"\xff" * 9 + b"\x01", b"\x80\x80\x80\x80\x08", b"\xfe\xff\xff\xff\xff\xff\xff\xff\xff\x01"]
 
@@ -79,7 +80,7 @@ def bound():
 
 def read(path):
     """The status, the text and the peak memory of a run; the status is None where it didn't end in time."""
-    child = subprocess.Popen([str(READER), "read", "parquet", path], stdout=subprocess.PIPE, stderr=subprocess.STDOUT, preexec_fn=bound)
+    child = subprocess.Popen([PROGRAM, "read", "parquet", path], stdout=subprocess.PIPE, stderr=subprocess.STDOUT, preexec_fn=bound)
     try:
         text, _ = child.communicate(timeout=SECONDS)
     except subprocess.TimeoutExpired:

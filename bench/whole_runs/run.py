@@ -7,41 +7,22 @@ append in turn, one store call each. A run's time is its processor time, the bes
 nothing is judged here.
 """
 import os
-import platform
-import subprocess
+import pathlib
 import sys
 import tempfile
+
+sys.path.insert(0, str(pathlib.Path(__file__).resolve().parent.parent))
+from measure import best_runs, growth, processor
 
 START_WORDS = "table (id long not null, v long not null)\n"
 RUNS = 3
 
 
-def processor():
-    for line in open("/proc/cpuinfo"):
-        if line.startswith("model name"):
-            return line.split(":", 1)[1].strip()
-    return platform.processor()
-
-
-def run(program, script, runs=RUNS):
+def run(program, script):
     """The least processor time in seconds, the peak memory in MB and the replies."""
-    best, peak, replies = None, 0.0, b""
     with tempfile.TemporaryFile() as source:
         source.write(script.encode())
-        for _ in range(runs):
-            source.seek(0)
-            with tempfile.TemporaryFile() as sink:
-                child = subprocess.Popen([program, "step"], stdin=source, stdout=sink)
-                _, status, usage = os.wait4(child.pid, 0)
-                taken = usage.ru_utime + usage.ru_stime
-                child.returncode = os.waitstatus_to_exitcode(status)
-                if child.returncode != 0:
-                    sys.exit(f"the run ended with {child.returncode}")
-                sink.seek(0)
-                replies = sink.read()
-            best = taken if best is None else min(best, taken)
-            peak = max(peak, usage.ru_maxrss / 1024)
-    return best, peak, replies.decode()
+        return best_runs(RUNS, [[program, "step"]], source)[0]
 
 
 def big_insert(size):
@@ -89,11 +70,11 @@ def statements_table(program):
         taken, peak, _ = run(program, statements(count))
         all_statements = count + count // 100
         gets = gets_of_inserts(count)
-        growth = "" if before is None else f"{taken / before:.2f}"
-        before = taken
         print(
-            f"| {count} | {taken:.3f} s | {taken / all_statements * 1e6:.0f} µs | {growth} | {gets} | {taken / gets * 1e9:.0f} ns | {peak:.0f} MB |"
+            f"| {count} | {taken:.3f} s | {taken / all_statements * 1e6:.0f} µs | {growth(taken, before)}"
+            f" | {gets} | {taken / gets * 1e9:.0f} ns | {peak:.0f} MB |"
         )
+        before = taken
 
 
 def calls_in_turn(sessions, inserts):
@@ -159,9 +140,8 @@ def sessions_table(program):
         if landed != sessions * 25:
             sys.exit(f"{landed} of {sessions * 25} inserts landed")
         each = taken / calls
-        growth = "" if before is None else f"{each / before:.2f}"
+        print(f"| {sessions} | 25 | {calls} | {taken:.3f} s | {each * 1e9:.0f} ns | {growth(each, before)} | {peak:.0f} MB |")
         before = each
-        print(f"| {sessions} | 25 | {calls} | {taken:.3f} s | {each * 1e9:.0f} ns | {growth} | {peak:.0f} MB |")
 
 
 def main():

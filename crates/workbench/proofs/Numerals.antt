@@ -14,7 +14,7 @@ use Rattle.workbench.specs.Words.{are_digits, number_of}
 tells_by_test : IsDigitsTest (λ ds. list_all is_ascii_digit ds ≡ true)
 tells_by_test = search rules
 
-by_test : IsNumeralModel (λ ds. list_all is_ascii_digit ds ≡ true) (digits_value 10)
+pub by_test : IsNumeralModel (λ ds. list_all is_ascii_digit ds ≡ true) (digits_value 10)
 by_test = numerals_by_value (λ ds. list_all is_ascii_digit ds ≡ true) tells_by_test
 
 parts : (text : List ℕ) → are_digits text ≡ true → (0 < length text) × (list_all is_ascii_digit text ≡ true)

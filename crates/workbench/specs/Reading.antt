@@ -1,6 +1,8 @@
 -- What files read as, and the texts of it.
-use Rattle.std.specs.Prelude.{ℕ, zero, suc, ◌+◌, ◌*◌, ◌%◌, ◌^◌, List, [], ◌∷◌, ◌++◌, ℤ, Result, Ok, Err, codes}
+use Rattle.std.specs.Prelude.{◌≡◌, ◌⊎◌, ℕ, zero, suc, ◌+◌, ◌*◌, ◌%◌, ◌^◌, List, [], ◌∷◌, ◌++◌, length, ℤ, pos, Result, Ok, Err, IfOk, codes}
+use Rattle.std.specs.Int.{w32, from_le_bytes}
 use Rattle.std.specs.Fmt.{decimal}
+use Rattle.bit_pack.specs.Hybrid.{Reads}
 use Rattle.thrift_compact.specs.declared.fault.ThriftFault.{ThriftFault}
 use Rattle.thrift_compact.specs.declared.fault.ThriftFault.TheVariants as faults
 use Rattle.thrift_compact.specs.declared.wire.Field.{Field}
@@ -8,6 +10,9 @@ use Rattle.thrift_compact.specs.declared.wire.Field.TheVariants as fields
 use Rattle.thrift_compact.specs.Places.{◌>>=◌}
 use Rattle.thrift_compact.specs.Values.{field_at}
 use Rattle.thrift_compact.specs.Skipped.{skipped_at}
+use Rattle.workbench.specs.declared.words.Format.{Format}
+use Rattle.workbench.specs.declared.words.Format.TheVariants as formats
+use Rattle.workbench.specs.Parquet.{IsFileText, wanting_text}
 
 -- so many fields more
 abbrev pub after_fields : ℕ → Result (ℕ × ℕ) ThriftFault → Result (ℕ × ℕ) ThriftFault
@@ -35,3 +40,23 @@ checksum_from sum (value ∷ values) = checksum_from ((sum * 31 + value) % 2 ^ 6
 -- the text for a hybrid
 abbrev pub values_text : ℕ → ℕ → List ℕ
 values_text count sum = decimal count ++ (codes " values, checksum " ++ decimal sum)
+
+-- A struct that can be read has the text of its fields. The text of a fault is free.
+abbrev pub IsFieldsText : List ℕ → List ℕ → Type 0
+IsFieldsText bytes text = IfOk (field_count (length bytes) bytes (pos 0) 0) (λ n. text ≡ fields_text n.0 n.1)
+
+-- Where the bytes hold so many values, the text is theirs, unless memory ran out. The text of a fault is free.
+abbrev pub IsValuesText : ℕ → ℕ → List ℕ → List ℕ → Type 0
+IsValuesText width count bytes text =
+    (values : List ℕ) → Reads width bytes count values → (text ≡ values_text count (checksum_from 0 values)) ⊎ (text ≡ wanting_text)
+
+-- The hybrid stands behind one byte of width and four of count, the lowest first.
+abbrev pub IsHybridText : List ℕ → List ℕ → Type 0
+IsHybridText (width ∷ a ∷ b ∷ c ∷ d ∷ rest) text = IsValuesText width (from_le_bytes w32 (a ∷ b ∷ c ∷ d ∷ [])) rest text
+IsHybridText bytes text = text ≡ codes "no width and count"
+
+-- what bytes of a format read as
+abbrev pub IsText : Format → List ℕ → List ℕ → Type 0
+IsText formats.Hybrid bytes text = IsHybridText bytes text
+IsText formats.Thrift bytes text = IsFieldsText bytes text
+IsText formats.Parquet bytes text = IsFileText bytes text

@@ -1,4 +1,6 @@
 //! Why nothing was printed.
+ghost use Rattle.std.specs.Prelude.{◌≡◌};
+ghost use Rattle.workbench.specs.declared.failed.Failed.TheVariants as failed;
 
 use crate::words::WordsFault;
 use bit_pack::PackFault;
@@ -30,24 +32,32 @@ pub enum Failed {
 }
 
 impl From<AllocError> for Failed {
+    ghost from_gives = { λ _ e. e ≡ failed.NoMemory };
+
     fn from(_refused: AllocError) -> Failed {
         Failed::NoMemory
     }
 }
 
 impl<T: Drop> From<AllocFailed<T>> for Failed {
+    ghost from_gives = { λ _ e. e ≡ failed.NoMemory };
+
     fn from(_refused: AllocFailed<T>) -> Failed {
         Failed::NoMemory
     }
 }
 
 impl From<NoMemory> for Failed {
+    ghost from_gives = { λ _ e. e ≡ failed.NoMemory };
+
     fn from(_refused: NoMemory) -> Failed {
         Failed::NoMemory
     }
 }
 
 impl From<PackFault> for Failed {
+    ghost from_gives = { λ f e. e ≡ failed.Kernel f };
+
     fn from(fault: PackFault) -> Failed {
         Failed::Kernel(fault)
     }

@@ -20,6 +20,7 @@ mod failed;
 mod kernels;
 mod parquet;
 mod reading;
+mod register;
 mod tables;
 #[cfg(test)]
 mod tests;

@@ -1,69 +1,89 @@
 //! Tables whose Parquet files are timed.
 
-ghost use Rattle.std.specs.Prelude.{◌↔◌, IsTrue};
-ghost use Rattle.std.specs.List.{All};
-ghost use Rattle.row_base.specs.Schema.{FitsSchema};
+ghost use Rattle.std.specs.Prelude.{◌≡◌, ◌⊎◌, ◌<◌, ◌≤◌, ◌%◌, ◌∷◌, [], IfOk, IfErr, OnOk, Ok, List, length, string_bytes};
+ghost use Rattle.row_base.specs.declared.row.Datum.{Datum as DatumValue};
+ghost use Rattle.parquet_meta.specs.Faults.{FaultOf};
+ghost use Rattle.parquet_meta.specs.declared.fault.FileFault.{FileFault};
+ghost use Rattle.parquet_plain.specs.Reading.{file_rows};
+ghost use Rattle.parquet_plain.specs.Written.{file_text};
+ghost use Rattle.workbench.specs.Tables as spec;
 
 use crate::failed::Failed;
+use crate::register::{FIRST_STATE, next_state};
 use crate::words::{Step, Table};
 use parquet_plain::{read_file, write_file};
 use row_base::{Column, Datum, Kind, NoMemory, Row, Schema, Text};
-use std::alloc::Global;
+use std::alloc::{AllocError, Global};
 
 /// The most rows of a file.
-const MOST_ROWS: usize = 16_777_216;
+const MOST_ROWS: u32 = 16_777_216;
 
 /// How many texts the table of repeated texts has.
 const WORDS: u64 = 100;
 
+/// The room for a row.
+const MOST_DATA: usize = 2;
+
 /// Makes so many rows of a table, and goes on from there as far as the step says; gives the number of bytes or rows.
-pub fn run(alloc: Global, step: Step, table: Table, count: u32) -> Result<u64, Failed> {
+pub fn run(alloc: Global, step: Step, table: Table, count: u32) -> Result<u64, Failed>
+    ensures ok { IfOk result (λ answer. answer ≡ spec.answer_of step table count) }
+    ensures err { IfErr result (spec.IsFailure table count) }
+{
+    match step {
+        Step::Rows => Ok(rows_of(alloc, table, count)?.len() as u64),
+        Step::Write => Ok(file_of(alloc, table, count)?.len() as u64),
+        Step::Copy => Ok(copy_of(alloc, &file_of(alloc, table, count)?)?.len() as u64),
+        Step::Read => Ok(count_rows(alloc, table, &file_of(alloc, table, count)?)?),
+    }
+}
+
+/// The file of so many rows of a table, where a file holds as many.
+fn file_of(alloc: Global, table: Table, count: u32) -> Result<Vec<u8>, Failed>
+    ensures text { IfOk result (λ bytes. bytes.items ≡ file_text (spec.schema_of table) (spec.rows_of table count)) }
+    ensures few { OnOk result (count ≤ 16777216) }
+    ensures err { IfErr result (λ e. (e ≡ Failed.NoMemory) ⊎ ((e ≡ Failed.Rows) × (16777216 < count))) }
+{
+    if count > MOST_ROWS {
+        return Err(Failed::Rows);
+    }
     let schema = schema_of(alloc, table)?;
     let rows = rows_of(alloc, table, count)?;
-    if matches!(step, Step::Rows) {
-        return Ok(rows.len() as u64);
-    }
-    let bytes = file_of(alloc, &schema, rows.as_slice())?;
-    drop(rows);
-    match step {
-        Step::Rows | Step::Write => Ok(bytes.len() as u64),
-        Step::Copy => {
-            let mut copy = Vec::with_capacity(alloc, bytes.len())?;
-            copy.extend_from_slice(bytes.as_slice())?;
-            Ok(copy.len() as u64)
-        }
-        Step::Read => {
-            let rows = read_file(alloc, &schema, bytes.as_slice()).map_err(Failed::Parquet)?;
-            Ok(rows.len() as u64)
-        }
-    }
+    Ok(write_file(alloc, &schema, rows.as_slice())?)
 }
 
-/// The file of rows, where a file holds them.
-fn file_of(alloc: Global, schema: &Schema, rows: &[Row]) -> Result<Vec<u8>, Failed> {
-    if rows.len() <= MOST_ROWS && all_fit(schema, rows) {
-        Ok(write_file(alloc, schema, rows)?)
-    } else {
-        Err(Failed::Rows)
-    }
-}
-
-/// Whether a row fits.
-fn fits(schema: &Schema, row: &Row) -> bool
-    ensures { IsTrue result ↔ FitsSchema schema.now row.now }
+/// A copy of bytes.
+fn copy_of(alloc: Global, bytes: &[u8]) -> Result<Vec<u8>, AllocError>
+    ensures { IfOk result (λ copy. copy.items ≡ bytes.now) }
 {
-    schema.fits(row).is_ok()
+    let mut copy = Vec::with_capacity(alloc, bytes.len())?;
+    copy.extend_from_slice(bytes)?;
+    Ok(copy)
 }
 
-/// Whether each row fits.
-fn all_fit(schema: &Schema, rows: &[Row]) -> bool
-    ensures { IsTrue result ↔ All (FitsSchema schema.now) rows.now }
+/// How many rows of a table a file reads as.
+fn count_rows(alloc: Global, table: Table, bytes: &[u8]) -> Result<u64, Failed>
+    ensures ok { IfOk result (λ count. (rows : List (List DatumValue)) × (file_rows (spec.schema_of table) bytes.now ≡ Ok rows) × (count ≡ length rows)) }
+    ensures err { IfErr result (λ e. (e ≡ Failed.NoMemory) ⊎ ((fault : FileFault) × (e ≡ Failed.Parquet fault) × FaultOf fault (file_rows (spec.schema_of table) bytes.now))) }
 {
-    rows.iter().all(|row| fits(schema, row))
+    let schema = schema_of(alloc, table)?;
+    match read_file(alloc, &schema, bytes) {
+        Ok(rows) => Ok(rows.len() as u64),
+        Err(fault) => Err(Failed::Parquet(fault)),
+    }
 }
 
 /// The schema of a table.
-fn schema_of(alloc: Global, table: Table) -> Result<Schema, Failed> {
+fn schema_of(alloc: Global, table: Table) -> Result<Schema, NoMemory>
+    ensures { IfOk result (λ schema. schema ≡ spec.schema_of table) }
+{
+    let columns = columns_of(alloc, table)?;
+    Ok(Schema::make(columns, Vec::new(alloc)).unwrap())
+}
+
+/// The columns of a table.
+fn columns_of(alloc: Global, table: Table) -> Result<Vec<Column>, NoMemory>
+    ensures { IfOk result (λ columns. columns.items ≡ spec.columns_of table) }
+{
     let mut columns = Vec::new(alloc);
     match table {
         Table::Longs => {
@@ -73,13 +93,12 @@ fn schema_of(alloc: Global, table: Table) -> Result<Schema, Failed> {
         Table::Words | Table::Texts => columns.push(column(alloc, "text", Kind::String, false)?)?,
         Table::Booleans => columns.push(column(alloc, "flag", Kind::Boolean, true)?)?,
     }
-    match Schema::make(columns, Vec::new(alloc)) {
-        Ok(schema) => Ok(schema),
-        Err(_) => Err(Failed::Rows),
-    }
+    Ok(columns)
 }
 
-fn column(alloc: Global, name: &str, kind: Kind, nullable: bool) -> Result<Column, NoMemory> {
+fn column(alloc: Global, name: &str, kind: Kind, nullable: bool) -> Result<Column, NoMemory>
+    ensures { IfOk result (λ column. column ≡ spec.column name.now kind nullable) }
+{
     Ok(Column {
         name: Text::make(alloc, name)?,
         kind,
@@ -88,53 +107,103 @@ fn column(alloc: Global, name: &str, kind: Kind, nullable: bool) -> Result<Colum
 }
 
 /// So many rows of a table.
-fn rows_of(alloc: Global, table: Table, count: u32) -> Result<Vec<Row>, Failed> {
+#[tactic(auto, unfolding(crate::specs::Tables::rows_of, crate::specs::Register::state_after))]
+fn rows_of(alloc: Global, table: Table, count: u32) -> Result<Vec<Row>, NoMemory>
+    ensures { IfOk result (λ rows. rows.items ≡ spec.rows_of table count) }
+{
     let words = words_of(alloc)?;
     let mut rows = Vec::with_capacity(alloc, count as usize)?;
-    let mut state: u64 = 0x9e37_79b9_7f4a_7c15;
+    let mut state = FIRST_STATE;
     for number in 0..count {
-        state ^= state << 13;
-        state ^= state >> 7;
-        state ^= state << 17;
+        state = next_state(state);
         rows.push(row_of(alloc, table, number, state, words.as_slice())?)?;
     }
     Ok(rows)
 }
 
 /// The texts of the table of repeated texts.
-fn words_of(alloc: Global) -> Result<Vec<Text>, Failed> {
+fn words_of(alloc: Global) -> Result<Vec<Text>, NoMemory>
+    ensures { IfOk result (λ words. words.items ≡ spec.words) }
+{
     let mut words = Vec::with_capacity(alloc, WORDS as usize)?;
     for number in 0..WORDS {
-        words.push(Text::from_string(format!(in alloc; "word {number}")?)?)?;
+        words.push(Text::from_string(word_of(alloc, number)?)?)?;
     }
     Ok(words)
 }
 
-/// The row of a number and a random state.
+fn word_of(alloc: Global, number: u64) -> Result<String, AllocError>
+    ensures { IfOk result (λ text. string_bytes text ≡ spec.word_of number) }
+{
+    format!(in alloc; "word {number}")
+}
+
+/// The row of a number and a state of the shift register.
 fn row_of(
     alloc: Global,
     table: Table,
     number: u32,
     state: u64,
     words: &[Text],
-) -> Result<Row, Failed> {
-    let mut row = Vec::with_capacity(alloc, 2)?;
+) -> Result<Row, NoMemory>
+    requires { words.now ≡ spec.words }
+    ensures { IfOk result (λ row. row ≡ spec.row_of table number state) }
+{
     match table {
-        Table::Longs => {
-            row.push(Datum::Long(i64::from(number)))?;
-            row.push(Datum::Long((state / 2) as i64))?;
-        }
-        Table::Words => match words.get((state % WORDS) as usize) {
-            Some(word) => row.push(Datum::Text(word.copy()?))?,
-            None => return Err(Failed::Rows),
-        },
-        Table::Texts => row.push(Datum::Text(Text::from_string(format!(in alloc;
-            "text {number} {state}"
-        )?)?))?,
-        Table::Booleans => row.push(match state % 3 {
-            0 => Datum::Null,
-            rest => Datum::Boolean(rest == 1),
-        })?,
+        Table::Longs => pair(
+            alloc,
+            Datum::Long(i64::from(number)),
+            Datum::Long((state / 2) as i64),
+        ),
+        Table::Words => single(alloc, Datum::Text(word_at(words, state)?)),
+        Table::Texts => single(
+            alloc,
+            Datum::Text(Text::from_string(text_of(alloc, number, state)?)?),
+        ),
+        Table::Booleans => single(alloc, flag_of(state)),
     }
+}
+
+/// The word that a state picks.
+fn word_at(words: &[Text], state: u64) -> Result<Text, NoMemory>
+    requires { words.now ≡ spec.words }
+    ensures { IfOk result (λ word. word ≡ spec.word_of (state % 100)) }
+{
+    words[(state % WORDS) as usize].copy()
+}
+
+/// A text that no other row has.
+fn text_of(alloc: Global, number: u32, state: u64) -> Result<String, AllocError>
+    ensures { IfOk result (λ text. string_bytes text ≡ spec.text_of number state) }
+{
+    format!(in alloc; "text {number} {state}")
+}
+
+/// Null, true or false.
+fn flag_of(state: u64) -> Datum
+    ensures { result ≡ spec.flag_of (state % 3) }
+{
+    match state % 3 {
+        0 => Datum::Null,
+        rest => Datum::Boolean(rest == 1),
+    }
+}
+
+/// A row of one datum.
+fn single(alloc: Global, datum: Datum) -> Result<Row, NoMemory>
+    ensures { IfOk result (λ row. row ≡ datum ∷ []) }
+{
+    let mut row = Vec::with_capacity(alloc, MOST_DATA)?;
+    row.push(datum)?;
+    Ok(Row::make(row))
+}
+
+/// A row of two data.
+fn pair(alloc: Global, first: Datum, second: Datum) -> Result<Row, NoMemory>
+    ensures { IfOk result (λ row. row ≡ first ∷ second ∷ []) }
+{
+    let mut row = Vec::with_capacity(alloc, MOST_DATA)?;
+    row.push(first)?;
+    row.push(second)?;
     Ok(Row::make(row))
 }

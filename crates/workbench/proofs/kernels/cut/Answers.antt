@@ -1,12 +1,10 @@
-use Rattle.std.proofs.Common.{◌^◌, ◌≤◌, arith}
-use Rattle.std.proofs.Math.Pow.{pow_mono}
-use Rattle.std.proofs.lemmas.Nat.{one_shl, pow_pos}
+use Rattle.std.proofs.Common.{arith}
+use Rattle.std.proofs.lemmas.Nat.{one_shl}
+use Rattle.workbench.proofs.States.{low_bits, whole_bits}
 use Rattle.workbench.proofs.kernels.cut.Goals as goal
 
 pub returns-then-width-lt32 : goal.returns-then-width-lt32
-returns-then-width-lt32 c = rw (one_shl c.args.width 64 (omega arith)) (omega (arith, pow_pos c.args.width))
+returns-then-width-lt32 c = rw (one_shl c.args.width 64 (omega arith)) (low_bits c.args.state c.args.width (omega arith))
 
 pub returns-else-width-lt32 : goal.returns-else-width-lt32
-returns-else-width-lt32 c =
-    let wide : 2 ^ 32 ≤ 2 ^ c.args.width = pow_mono {i = 32} (omega arith) in
-    omega (arith, wide)
+returns-else-width-lt32 c = whole_bits c.args.state c.args.width (omega arith)

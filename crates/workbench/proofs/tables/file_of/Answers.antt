@@ -1,0 +1,14 @@
+use Rattle.std.proofs.Common.{◌≡◌, ◌∙◌, List, length, ap, arith}
+use Rattle.row_base.specs.declared.row.Datum.{Datum}
+use Rattle.workbench.proofs.Rows.{length-rows_of, rows_here}
+use Rattle.workbench.proofs.tables.file_of.Goals as goal
+
+pub write_file-requires-clause-few : goal.write_file-requires-clause-few
+write_file-requires-clause-few c =
+    let made = c.as_slice.ensures.value ∙ c.in_ok-rows.ensures in
+    let long : length c.as_slice.result.now ≡ c.args.count = ap (λ (rows : List (List Datum)). length rows) made ∙ length-rows_of c.args.table c.args.count in
+    omega (arith, long)
+
+pub write_file-requires-clause-fits : goal.write_file-requires-clause-fits
+write_file-requires-clause-fits c =
+    rows_here c.args.table c.args.count c.in_ok-schema.schema c.as_slice.result.now c.in_ok-schema.ensures (c.as_slice.ensures.value ∙ c.in_ok-rows.ensures)
