@@ -5,3 +5,6 @@ pub mod RowLemmas
 pub mod DateLemmas
 pub mod DateRange
 pub mod Bags
+pub mod RowEndLemmas
+pub mod SortLemmas
+pub mod Numerals

@@ -1,5 +1,10 @@
 pub mod Bags
 pub mod Dates
+pub mod Faults
+pub mod Numbers
+pub mod Readings
+pub mod RowEnds
 pub mod RowOrder
 pub mod RowOrderLaws
 pub mod Schema
+pub mod Sorting

@@ -5,16 +5,16 @@ ghost use Rattle.std.specs.Cmp.{IsTotalOrder};
 ghost use Rattle.row_base.specs.declared.row.Datum.{Datum};
 ghost use Rattle.row_base.specs.RowOrder.{row_cmp, row_eq, IsToldApart};
 
-use crate::Row;
+use crate::Datum;
 use std::cmp::Ordering;
 
 /// Compares two rows column by column from the left: null first, false before true, texts by their
 /// bytes, and data of different kinds in the order of `Datum`'s variants. Of two rows of which one
 /// begins the other, the shorter is less.
-pub fn cmp_rows(a: &Row, b: &Row) -> Ordering
+pub fn cmp_rows(a: &[Datum], b: &[Datum]) -> Ordering
     ensures { result ≡ row_cmp a.now b.now }
 {
-    a.as_slice().cmp(b.as_slice())
+    a.cmp(b)
 }
 
 /// The order of rows is total, and it tells every two rows apart.

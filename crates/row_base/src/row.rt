@@ -1,7 +1,7 @@
-//! Data, rows and lists of rows.
+//! Data, literal rows and data files.
 ghost use Rattle.std.specs.Prelude.{◌≡◌, IfOk};
 
-use crate::{NoMemory, Text, cmp_rows};
+use crate::{NoMemory, Rows, Text, cmp_rows};
 use std::alloc::Global;
 use std::cmp::Ordering;
 use std::marker::Model;
@@ -18,7 +18,7 @@ pub enum Kind {
 }
 
 /// One value of a row. A date is its number of days since 1970-01-01.
-#[derive(Debug, Drop, PartialEq, Eq, PartialOrd, Ord)]
+#[derive(Debug, Drop, PartialEq, Eq, PartialOrd, Ord, Hash)]
 pub enum Datum {
     Null,
     Long(i64),
@@ -44,7 +44,7 @@ impl Datum {
     }
 }
 
-/// A row: a datum for each column, in the order of the columns.
+/// A literal row: a datum for each column, in the order of the columns. Rows of a list are borrowed as `&[Datum]`.
 #[derive(Debug, Drop)]
 pub struct Row {
     values: Vec<Datum>,
@@ -103,7 +103,7 @@ impl PartialEq for Row {
     ghost laws = { partial_equiv_from_equiv row_eq_equivalence };
 
     fn eq(&self, other: &Row) -> bool {
-        cmp_rows(self, other).is_eq()
+        cmp_rows(self.as_slice(), other.as_slice()).is_eq()
     }
 }
 
@@ -127,7 +127,7 @@ impl Ord for Row {
     ghost matches_eq = { λ x y. refl };
 
     fn cmp(&self, other: &Row) -> Ordering {
-        cmp_rows(self, other)
+        cmp_rows(self.as_slice(), other.as_slice())
     }
 }
 
@@ -144,55 +144,6 @@ impl PartialOrd for Row {
 
     fn partial_cmp(&self, other: &Row) -> Option<Ordering> {
         Some(self.cmp(other))
-    }
-}
-
-/// A list of rows.
-#[derive(Debug, Drop)]
-pub struct Rows {
-    rows: Vec<Row>,
-}
-
-impl Model for Rows {
-    ghost use Rattle.std.specs.Prelude.{List};
-    ghost use Rattle.row_base.specs.declared.row.Datum.{Datum};
-
-    ghost Value = { List (List Datum) };
-
-    ghost view = { λ a. a.rows.items };
-}
-
-impl Rows {
-    /// The list of these rows.
-    pub fn make(rows: Vec<Row>) -> Rows
-        ensures { result ≡ rows.items }
-    {
-        Rows { rows }
-    }
-
-    /// The rows.
-    pub fn as_slice(&self) -> &[Row]
-        ensures { result.now ≡ self.now }
-    {
-        self.rows.as_slice()
-    }
-
-    /// The rows, handed over.
-    pub fn into_vec(self) -> Vec<Row>
-        ensures { result.items ≡ self }
-    {
-        self.rows
-    }
-
-    /// An equal list.
-    pub fn copy(&self, alloc: Global) -> Result<Rows, NoMemory>
-        ensures { IfOk result (λ r. r ≡ self.now) }
-    {
-        let mut rows = Vec::with_capacity(alloc, self.rows.len())?;
-        for row in self.rows.as_slice() {
-            rows.push(row.copy(alloc)?)?;
-        }
-        Ok(Rows { rows })
     }
 }
 

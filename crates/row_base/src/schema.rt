@@ -5,13 +5,11 @@ ghost use Rattle.std.specs.List.{position};
 ghost use Rattle.std.specs.Cmp.Lexicographic.{pointwise};
 ghost use Rattle.row_base.specs.Schema.{first_after, is_named, repeats_name, is_wrong_place, schema_fault, IsSchema, IsSchemaFault, IsRowFault, column_place, is_partition_column, narrowed_number, is_of_kind, is_empty_text, datum_fault, first_datum_fault, row_fault, FitsSchema, settled_datum, settled};
 
-use crate::{Datum, Kind, NoMemory, Row, Text};
+use crate::limits::MAX_COLUMNS;
+use crate::{Datum, Items, Kind, NoMemory, Row, Text};
 use std::alloc::Global;
 use std::marker::Model;
 use thiserror::Error;
-
-/// The most columns that a schema has.
-pub const MAX_COLUMNS: usize = 64;
 
 /// A column: its name, the kind of its data, and whether a datum may be null (a field of a struct type:
 /// PROTOCOL.md, "Struct Field").
@@ -32,52 +30,6 @@ impl Column {
             kind: self.kind,
             nullable: self.nullable,
         })
-    }
-}
-
-/// A list of columns, which need not make a schema.
-#[derive(Debug, Drop)]
-pub struct Columns {
-    columns: Vec<Column>,
-}
-
-impl Model for Columns {
-    ghost use Rattle.std.specs.Prelude.{List};
-    ghost use Rattle.row_base.specs.declared.schema.Column.{Column};
-
-    ghost Value = { List Column };
-
-    ghost view = { λ a. a.columns.items };
-}
-
-impl Columns {
-    /// The list of these columns.
-    pub fn make(columns: Vec<Column>) -> Columns
-        ensures { result ≡ columns.items }
-    {
-        Columns { columns }
-    }
-
-    /// The columns.
-    pub fn as_slice(&self) -> &[Column]
-        ensures { result.now ≡ self.now }
-    {
-        self.columns.as_slice()
-    }
-
-    /// The columns, handed over.
-    pub fn into_vec(self) -> Vec<Column>
-        ensures { result.items ≡ self }
-    {
-        self.columns
-    }
-
-    /// An equal list. The bytes of the names are shared.
-    pub fn copy(&self, alloc: Global) -> Result<Columns, NoMemory>
-        ensures { IfOk result (λ c. c ≡ self.now) }
-    {
-        let columns = copy_columns(alloc, self.columns.as_slice())?;
-        Ok(Columns { columns })
     }
 }
 
@@ -197,7 +149,7 @@ impl Schema {
     pub fn copy(&self, alloc: Global) -> Result<Schema, NoMemory>
         ensures { IfOk result (λ s. s ≡ self.now) }
     {
-        let columns = copy_columns(alloc, self.columns.as_slice())?;
+        let columns = column_copies(alloc, self.columns.as_slice())?;
         let partition = Vec::from_slice(alloc, self.partition.as_slice())?;
         Ok(Schema { columns, partition })
     }
@@ -205,7 +157,7 @@ impl Schema {
     /// Whether a row fits: it has a datum for each column, which is of the column's kind, or null where the
     /// column allows it, and in a partition column is not the empty text. Else the first column that is
     /// wrong. It takes no memory.
-    pub fn fits(&self, row: &Row) -> Result<(), RowFault>
+    pub fn fits(&self, row: &[Datum]) -> Result<(), RowFault>
         ensures fits { IsOk result ↔ FitsSchema self.now row.now }
         ensures wrong { IfErr result (IsRowFault self.now row.now) }
         ensures fault { MatchResult result (λ _. row_fault self.now row.now ≡ None) (λ f. row_fault self.now row.now ≡ Some f) }
@@ -226,7 +178,7 @@ impl Schema {
         ensures back { IfErr result (λ u. u.row ≡ row) }
         ensures fault { MatchResult result (λ _. row_fault self.now (settled self.now.columns row) ≡ None) (λ u. row_fault self.now (settled self.now.columns row) ≡ Some u.fault) }
     {
-        if let Some(fault) = self.settled_fault(&row) {
+        if let Some(fault) = self.settled_fault(row.as_slice()) {
             return Err(Unsettled { row, fault });
         }
         let mut values = row.into_vec();
@@ -235,30 +187,37 @@ impl Schema {
     }
 
     /// The first fault of a row.
-    fn fault_of(&self, row: &Row) -> Option<RowFault>
+    fn fault_of(&self, row: &[Datum]) -> Option<RowFault>
         ensures { result ≡ row_fault self.now row.now }
     {
-        let (columns, values) = (self.columns(), row.as_slice());
-        if values.len() != columns.len() {
+        let columns = self.columns();
+        if row.len() != columns.len() {
             return Some(RowFault::Count);
         }
-        first_wrong_datum(self.partition(), columns, values)
+        first_wrong_datum(self.partition(), columns, row)
     }
 
     /// The first fault of a row once it is settled.
-    fn settled_fault(&self, row: &Row) -> Option<RowFault>
+    fn settled_fault(&self, row: &[Datum]) -> Option<RowFault>
         ensures { result ≡ row_fault self.now (settled self.now.columns row.now) }
     {
-        let (columns, values) = (self.columns(), row.as_slice());
-        if values.len() != columns.len() {
+        let columns = self.columns();
+        if row.len() != columns.len() {
             return Some(RowFault::Count);
         }
-        first_wrong_settled(self.partition(), columns, values)
+        first_wrong_settled(self.partition(), columns, row)
     }
 }
 
-/// A list of equal columns.
-fn copy_columns(alloc: Global, columns: &[Column]) -> Result<Vec<Column>, NoMemory>
+/// A list of equal columns. The bytes of their names are shared.
+pub fn copy_columns(alloc: Global, columns: &[Column]) -> Result<Items<Column>, NoMemory>
+    ensures { IfOk result (λ c. c ≡ columns.now) }
+{
+    Ok(Items::from_vec(column_copies(alloc, columns)?))
+}
+
+/// Equal columns.
+fn column_copies(alloc: Global, columns: &[Column]) -> Result<Vec<Column>, NoMemory>
     ensures { IfOk result (λ v. v.items ≡ columns.now) }
 {
     let mut copies = Vec::with_capacity(alloc, columns.len())?;

@@ -1,7 +1,7 @@
 //! Texts, seen as the list of their bytes in UTF-8.
 ghost use Rattle.std.specs.Prelude.{◌≡◌, IfOk, IsUtf8, string_bytes};
 
-use crate::NoMemory;
+use crate::{Items, NoMemory};
 use std::alloc::Global;
 use std::cmp::Ordering;
 use std::hash::{Hash, Hasher};
@@ -133,50 +133,13 @@ impl Hash for Text {
     }
 }
 
-/// A list of texts.
-#[derive(Debug, Drop)]
-pub struct Texts {
-    texts: Vec<Text>,
-}
-
-impl Model for Texts {
-    ghost use Rattle.std.specs.Prelude.{List, ℕ};
-
-    ghost Value = { List (List ℕ) };
-
-    ghost view = { λ a. a.texts.items };
-}
-
-impl Texts {
-    /// The list of these texts.
-    pub fn make(texts: Vec<Text>) -> Texts
-        ensures { result ≡ texts.items }
-    {
-        Texts { texts }
+/// A list of the same texts. Their bytes are shared.
+pub fn copy_texts(alloc: Global, texts: &[Text]) -> Result<Items<Text>, NoMemory>
+    ensures { IfOk result (λ t. t ≡ texts.now) }
+{
+    let mut copies = Vec::with_capacity(alloc, texts.len())?;
+    for text in texts {
+        copies.push(text.copy()?)?;
     }
-
-    /// The texts.
-    pub fn as_slice(&self) -> &[Text]
-        ensures { result.now ≡ self.now }
-    {
-        self.texts.as_slice()
-    }
-
-    /// The texts, handed over.
-    pub fn into_vec(self) -> Vec<Text>
-        ensures { result.items ≡ self }
-    {
-        self.texts
-    }
-
-    /// An equal list. The bytes of the texts are shared.
-    pub fn copy(&self, alloc: Global) -> Result<Texts, NoMemory>
-        ensures { IfOk result (λ t. t ≡ self.now) }
-    {
-        let mut texts = Vec::with_capacity(alloc, self.texts.len())?;
-        for text in self.texts.as_slice() {
-            texts.push(text.copy()?)?;
-        }
-        Ok(Texts { texts })
-    }
+    Ok(Items::from_vec(copies))
 }

@@ -2,9 +2,9 @@ use Rattle.std.proofs.Common.{◌≡◌, ◌≢◌, length, sym, ◌∙◌, ap}
 use Rattle.row_base.proofs.RowLemmas.{wrong_count, right_count}
 use Rattle.row_base.proofs.schema.Schema.settled_fault.Goals as goal
 
-pub returns-then-values-columns : goal.returns-then-values-columns
-returns-then-values-columns c =
-    let apart : length c.args.row.now ≢ length c.args.self.now.columns = λ long. c.if-values-columns.true (ap length c.as_slice-values.ensures ∙ long ∙ sym (ap length c.columns-columns.ensures.value)) in
+pub returns-then-row-columns : goal.returns-then-row-columns
+returns-then-row-columns c =
+    let apart : length c.args.row.now ≢ length c.args.self.now.columns = λ long. c.if-row-columns.true (long ∙ sym (ap length c.columns-columns.ensures.value)) in
     let e = wrong_count c.args.self.now c.args.row.now apart in
     sym e
 

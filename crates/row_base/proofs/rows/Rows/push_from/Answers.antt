@@ -1,0 +1,13 @@
+use Rattle.std.proofs.Common.{rules}
+use Rattle.row_base.proofs.RowEndLemmas.{ends_after, rows_after}
+use Rattle.row_base.proofs.rows.Rows.push_from.Goals as goal
+
+pub invariant_of-self-2 : goal.invariant_of-self-2
+invariant_of-self-2 c =
+    rw (c.push_reserved.ensures.items, c.in_ok-reserve.ensures.items, c.in_ok-append.ensures.items)
+    (ends_after c.self.inside.ends.items c.self.inside.values.items c.args.row.now.items c.len.result c.self.invariant (search rules))
+
+pub returns-clause-ok : goal.returns-clause-ok
+returns-clause-ok c =
+    rw (c.push_reserved.ensures.items, c.in_ok-reserve.ensures.items, c.in_ok-append.ensures.items, ← c.self.view_is)
+    (rows_after c.self.inside.ends.items c.self.inside.values.items c.args.row.now.items c.len.result c.self.invariant (search rules))
