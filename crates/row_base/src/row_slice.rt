@@ -1,5 +1,5 @@
 //! Rows that are borrowed.
-ghost use Rattle.std.specs.Prelude.{◌≡◌, ◌≤◌, ◌-◌, ◌+◌, ◌<◌, ◌^◌, length, slice_get, take, drop, option_map};
+ghost use Rattle.std.specs.Prelude.{◌≡◌, ◌≤◌, ◌-◌, ◌+◌, ◌<◌, ◌==◌, ◌^◌, length, slice_get, take, drop, option_map};
 ghost use Rattle.row_base.specs.RowEnds.{rows_from, AreEnds, place_of_row};
 
 use crate::Datum;
@@ -34,6 +34,13 @@ impl<'a> RowSlice<'a> {
     {
         let _count = ends.len();
         RowSlice { at: 0, ends, rest }
+    }
+
+    /// Whether no row is left.
+    pub fn is_empty(&self) -> bool
+        ensures { result ≡ (length self.now == 0) }
+    {
+        self.len() == 0
     }
 
     /// How many rows are left.

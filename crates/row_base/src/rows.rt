@@ -1,5 +1,5 @@
 //! Rows, one after another in one list of data.
-ghost use Rattle.std.specs.Prelude.{◌≡◌, ◌++◌, ◌∷◌, [], ◌<◌, length, IfOk, OnOk, OnErr, slice_get, option_map, take, map, ◌+◌, ◌≤◌, ◌^◌, vec_len, vec_capacity};
+ghost use Rattle.std.specs.Prelude.{◌≡◌, ◌++◌, ◌∷◌, [], ◌<◌, length, IfOk, OnOk, OnErr, slice_get, option_map, take, map, ◌+◌, ◌≤◌, ◌==◌, ◌^◌, vec_len, vec_capacity};
 ghost use Rattle.std.specs.List.{All};
 
 use crate::row_slice::RowSlice;
@@ -35,6 +35,23 @@ impl Rows {
             values: Vec::new(alloc),
             ends: Vec::new(alloc),
         }
+    }
+
+    /// No rows, with room for so many rows and so many data in all of them.
+    pub fn with_capacity(alloc: Global, rows: usize, data: usize) -> Result<Rows, NoMemory>
+        ensures { IfOk result (λ r. r ≡ []) }
+    {
+        Ok(Rows {
+            values: Vec::with_capacity(alloc, data)?,
+            ends: Vec::with_capacity(alloc, rows)?,
+        })
+    }
+
+    /// Whether there is no row.
+    pub fn is_empty(&self) -> bool
+        ensures { result ≡ (length self.now == 0) }
+    {
+        self.len() == 0
     }
 
     /// How many rows there are.

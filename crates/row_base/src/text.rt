@@ -52,6 +52,13 @@ impl Text {
         text
     }
 
+    /// Its bytes in UTF-8.
+    pub fn as_bytes(&self) -> &[u8]
+        ensures { result.now ≡ self.now }
+    {
+        self.as_str().as_bytes()
+    }
+
     /// Another owner of the same bytes, of which none is copied.
     pub fn copy(&self) -> Result<Text, NoMemory>
         ensures { IfOk result (λ t. t ≡ self.now) }
