@@ -3,7 +3,7 @@ use Rattle.std.specs.Prelude.{◌≡◌, ℕ, List, [], ◌∷◌}
 use Rattle.edge_api.specs.declared.call.Call.{Call}
 use Rattle.edge_api.specs.declared.call.Tag.{Tag}
 use Rattle.edge_api.specs.declared.call.JournalEntry.{JournalEntry}
-use Rattle.edge_api.specs.Journal.{IsOfKind}
+use Rattle.edge_api.specs.Journal.{Entries, IsOfKind}
 use Rattle.edge_api.specs.declared.actor.Fed.{Fed}
 use Rattle.edge_api.specs.declared.actor.Fed.TheVariants as fed
 use Rattle.edge_api.specs.declared.actor.Step.{Step}
@@ -14,6 +14,7 @@ pub data Event : Type 0 where
   Made : JournalEntry → Event
   Refused : Event
 
+-- what an actor was fed, as an event
 abbrev pub event_of : Tag → Call → Fed → Event
 event_of tag call (fed.Answer a) = Made (record { tag = tag; call = call; answer = a })
 event_of tag call fed.NoMemory = Refused
@@ -45,7 +46,7 @@ Feeds goes a [] b = a ≡ b
 Feeds {A} goes a (e ∷ es) b = (mid : A) × goes a e mid × Feeds goes mid es b
 
 -- the entries that events make
-abbrev pub entries_of_events : List Event → List JournalEntry
+abbrev pub entries_of_events : List Event → Entries
 entries_of_events [] = []
 entries_of_events (Made e ∷ es) = e ∷ entries_of_events es
 entries_of_events (Refused ∷ es) = entries_of_events es

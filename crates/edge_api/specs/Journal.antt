@@ -1,5 +1,5 @@
 -- What the entries of a journal say: the objects that they leave, and the answers that these give.
-use Rattle.std.specs.Prelude.{◌≡◌, ℕ, ◌≤◌, ◌^◌, Bool, if◌then◌else◌, List, [], ◌∷◌, Option, Some, None, nat_eq}
+use Rattle.std.specs.Prelude.{◌≡◌, ◌==◌, ◌&&◌, ℕ, ◌≤◌, ◌^◌, Bool, if◌then◌else◌, List, [], ◌∷◌, Option, Some, None, nat_eq}
 use Rattle.std.specs.List.{starts_with}
 use Rattle.std.specs.Str.{bytes_eq}
 use Rattle.std.specs.Ordering.{nat_cmp}
@@ -11,10 +11,20 @@ use Rattle.edge_api.specs.declared.call.CallKind.{CallKind}
 use Rattle.edge_api.specs.declared.call.CallKind.TheVariants as kind
 use Rattle.edge_api.specs.declared.call.Answer.{Answer}
 use Rattle.edge_api.specs.declared.call.Answer.TheVariants.{Fault, Body, Missing, Stored, Taken, Names, Gone, Time, Waited}
+use Rattle.edge_api.specs.declared.call.Tag.{Tag}
 use Rattle.edge_api.specs.declared.call.Listed.{Listed}
 use Rattle.edge_api.specs.declared.call.Object.{Object}
 use Rattle.edge_api.specs.declared.call.JournalEntry.{JournalEntry}
 
+-- the entries of a journal
+abbrev pub Entries : Type 0
+Entries = List JournalEntry
+
+-- the two tags name one statement of one actor
+abbrev pub same_tag : Tag → Tag → Bool
+same_tag a b = (a.actor == b.actor) && (a.statement == b.statement)
+
+-- the kind of a call
 abbrev pub kind_of : Call → CallKind
 kind_of (Get name) = kind.Get
 kind_of (PutNew name body) = kind.PutNew
@@ -47,6 +57,7 @@ object_at (o ∷ os) name = if bytes_eq o.0 name then Some o.1 else object_at os
 abbrev pub with_object : Objects → List ℕ → Object → Objects
 with_object os name o = insert_entry (slice_cmp nat_cmp) os name o
 
+-- the objects but for the one under a name
 abbrev pub without_object : Objects → List ℕ → Objects
 without_object [] name = []
 without_object (o ∷ os) name = if bytes_eq o.0 name then without_object os name else o ∷ without_object os name
@@ -57,22 +68,24 @@ listing [] prefix = []
 listing (o ∷ os) prefix = if starts_with nat_eq o.0 prefix then record { name = o.0; put_at = o.1.put_at } ∷ listing os prefix else listing os prefix
 
 -- a put of a free name; one that is there stays as it is
-abbrev pub stored_new : Option Object → Objects → List ℕ → Object → Objects
-stored_new (Some there) os name o = os
-stored_new None os name o = with_object os name o
+abbrev pub put_new_objects : Option Object → Objects → List ℕ → Object → Objects
+put_new_objects (Some there) os name o = os
+put_new_objects None os name o = with_object os name o
 
-abbrev pub found : Option Object → Answer
-found (Some o) = Body o.body
-found None = Missing
+-- the answer to a read of an object
+abbrev pub read_answer : Option Object → Answer
+read_answer (Some o) = Body o.body
+read_answer None = Missing
 
-abbrev pub stored : Option Object → Answer
-stored (Some o) = Taken
-stored None = Stored
+-- the answer to a put of a name that is to be free
+abbrev pub put_new_answer : Option Object → Answer
+put_new_answer (Some o) = Taken
+put_new_answer None = Stored
 
 -- the answer that the objects and the clock give to a call
 abbrev pub answer_of : Objects → ℕ → Call → Answer
-answer_of os clock (Get name) = found (object_at os name)
-answer_of os clock (PutNew name body) = stored (object_at os name)
+answer_of os clock (Get name) = read_answer (object_at os name)
+answer_of os clock (PutNew name body) = put_new_answer (object_at os name)
 answer_of os clock (Put name body) = Stored
 answer_of os clock (ListNames prefix) = Names (listing os prefix)
 answer_of os clock (Delete name) = Gone
@@ -82,7 +95,7 @@ answer_of os clock (Wait time) = Waited
 -- the effect of a call: the objects after it
 abbrev pub effect_of : Objects → ℕ → Call → Objects
 effect_of os clock (Get name) = os
-effect_of os clock (PutNew name body) = stored_new (object_at os name) os name (record { body = body; put_at = clock })
+effect_of os clock (PutNew name body) = put_new_objects (object_at os name) os name (record { body = body; put_at = clock })
 effect_of os clock (Put name body) = with_object os name (record { body = body; put_at = clock })
 effect_of os clock (ListNames prefix) = os
 effect_of os clock (Delete name) = without_object os name
@@ -98,45 +111,33 @@ pub record Moment : Type 0 where
 -- the objects after an answer
 abbrev pub after_answer : Answer → Bool → Objects → Objects → Objects
 after_answer Fault took_effect before after = if took_effect then after else before
-after_answer (Body b) took_effect before after = after
-after_answer Missing took_effect before after = after
-after_answer Stored took_effect before after = after
-after_answer Taken took_effect before after = after
-after_answer (Names l) took_effect before after = after
-after_answer Gone took_effect before after = after
-after_answer (Time t) took_effect before after = after
-after_answer Waited took_effect before after = after
+after_answer answer took_effect before after = after
 
-abbrev pub after : Objects → Moment → Objects
-after os m = after_answer m.entry.answer m.took_effect os (effect_of os m.clock m.entry.call)
+-- the objects after a moment
+abbrev pub after_moment : Objects → Moment → Objects
+after_moment os m = after_answer m.entry.answer m.took_effect os (effect_of os m.clock m.entry.call)
 
 abbrev pub objects_after : Objects → List Moment → Objects
 objects_after os [] = os
-objects_after os (m ∷ ms) = objects_after (after os m) ms
+objects_after os (m ∷ ms) = objects_after (after_moment os m) ms
 
 -- the answer is Fault or the right one
 abbrev pub Answers : Answer → Answer → Type 0
 Answers Fault right = Unit {0}
-Answers (Body b) right = Body b ≡ right
-Answers Missing right = Missing ≡ right
-Answers Stored right = Stored ≡ right
-Answers Taken right = Taken ≡ right
-Answers (Names l) right = Names l ≡ right
-Answers Gone right = Gone ≡ right
-Answers (Time t) right = Time t ≡ right
-Answers Waited right = Waited ≡ right
+Answers answer right = answer ≡ right
 
--- each answer is the one that the objects and the clock give, and the clock never falls
+-- each answer is the one that the objects and the clock give, and the clock never falls and never passes 2^61 milliseconds
 abbrev pub IsLegal : Objects → ℕ → List Moment → Type 0
 IsLegal os clock [] = Unit {0}
-IsLegal os clock (m ∷ ms) = (clock ≤ m.clock) × Answers m.entry.answer (answer_of os m.clock m.entry.call) × IsLegal (after os m) m.clock ms
+IsLegal os clock (m ∷ ms) = (clock ≤ m.clock) × (m.clock ≤ 2 ^ 61) × Answers m.entry.answer (answer_of os m.clock m.entry.call) × IsLegal (after_moment os m) m.clock ms
 
-abbrev pub entries_of : List Moment → List JournalEntry
+-- the entries of the moments
+abbrev pub entries_of : List Moment → Entries
 entries_of [] = []
 entries_of (m ∷ ms) = m.entry ∷ entries_of ms
 
 -- a completion of a journal that is legal from a store with no objects
-pub record HasLegalCompletion (journal : List JournalEntry) : Type 0 where
+pub record HasLegalCompletion (journal : Entries) : Type 0 where
   pub moments : List Moment
   pub entries : entries_of moments ≡ journal
   pub legal : IsLegal [] 0 moments

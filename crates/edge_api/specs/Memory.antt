@@ -3,12 +3,15 @@ use Rattle.std.specs.Prelude.{◌≡◌, ℕ, ◌+◌, ◌≤◌, ◌^◌, min, 
 use Rattle.edge_api.specs.declared.call.Call.{Call}
 use Rattle.edge_api.specs.declared.call.Call.TheVariants.{Get, PutNew, Put, List as ListNames, Delete, Now, Wait}
 use Rattle.edge_api.specs.declared.call.Answer.{Answer}
+use Rattle.edge_api.specs.declared.call.Answer.TheVariants.{Fault}
 use Rattle.edge_api.specs.declared.call.Tag.{Tag}
-use Rattle.edge_api.specs.declared.call.JournalEntry.{JournalEntry}
-use Rattle.edge_api.specs.Journal.{Objects, Moment, entries_of, objects_after, IsLegal, answer_of, effect_of}
+use Rattle.edge_api.specs.declared.flaky.How.{How}
+use Rattle.edge_api.specs.declared.flaky.How.TheVariants.{NotDone, DoneUnheard}
+use Rattle.edge_api.specs.Journal.{Entries, Objects, Moment, entries_of, objects_after, IsLegal, answer_of, effect_of}
 
+-- what a store in memory holds. Its clock is in milliseconds
 pub record Memory : Type 0 where
-  pub journal : List JournalEntry
+  pub journal : Entries
   pub objects : Objects
   pub clock : ℕ
 
@@ -34,13 +37,18 @@ memory_after m tag call = record {
   clock = clock_after m.clock call;
 }
 
+-- the store after a call that was answered Fault, which was not done, or was done unheard
+abbrev pub memory_after_fault : Memory → Tag → Call → How → Memory
+memory_after_fault m tag call NotDone = record m { journal = m.journal ++ record { tag = tag; call = call; answer = Fault } ∷ [] }
+memory_after_fault m tag call DoneUnheard = record (memory_after m tag call) { journal = m.journal ++ record { tag = tag; call = call; answer = Fault } ∷ [] }
+
 -- the clock of the last moment
 abbrev pub last_clock : ℕ → List Moment → ℕ
 last_clock clock [] = clock
 last_clock clock (m ∷ ms) = last_clock m.clock ms
 
 -- a legal completion of the journal that leaves these objects at this clock
-pub record IsCompleted (journal : List JournalEntry) (objects : Objects) (clock : ℕ) : Type 0 where
+pub record IsCompleted (journal : Entries) (objects : Objects) (clock : ℕ) : Type 0 where
   pub moments : List Moment
   pub entries : entries_of moments ≡ journal
   pub legal : IsLegal [] 0 moments

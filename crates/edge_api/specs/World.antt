@@ -1,11 +1,11 @@
 -- What a store's journal and its count of faults say of a call.
 use Rattle.std.specs.Prelude.{◌≡◌, ℕ, ◌+◌, ◌-◌, ◌≤◌, ◌^◌, min, List, ◌++◌, Option, Some, None}
 use Rattle.edge_api.specs.declared.call.Answer.{Answer}
-use Rattle.edge_api.specs.declared.call.Answer.TheVariants.{Fault, Body, Missing, Stored, Taken, Names, Gone, Time, Waited}
-use Rattle.edge_api.specs.declared.call.JournalEntry.{JournalEntry}
+use Rattle.edge_api.specs.declared.call.Answer.TheVariants.{Fault}
+use Rattle.edge_api.specs.Journal.{Entries}
 
 -- the journal has grown by these entries, where it is told
-abbrev pub Grows : Option (List JournalEntry) → List JournalEntry → Option (List JournalEntry) → Type 0
+abbrev pub Grows : Option Entries → Entries → Option Entries → Type 0
 Grows None part new = new ≡ None
 Grows (Some old) part new = new ≡ Some (old ++ part)
 
@@ -16,11 +16,4 @@ Rose before now = min (before + 1) (2 ^ 64 - 1) ≤ now
 -- a store that answers Fault has counted it
 abbrev pub FaultHasCause : ℕ → ℕ → Answer → Type 0
 FaultHasCause before now Fault = Rose before now
-FaultHasCause before now (Body b) = Unit {0}
-FaultHasCause before now Missing = Unit {0}
-FaultHasCause before now Stored = Unit {0}
-FaultHasCause before now Taken = Unit {0}
-FaultHasCause before now (Names l) = Unit {0}
-FaultHasCause before now Gone = Unit {0}
-FaultHasCause before now (Time t) = Unit {0}
-FaultHasCause before now Waited = Unit {0}
+FaultHasCause before now answer = Unit {0}

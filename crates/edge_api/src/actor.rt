@@ -1,4 +1,4 @@
-// An actor: a machine that is resumed at each call of the store.
+//! An actor: a machine that is resumed at each call of the store.
 ghost use Rattle.std.specs.Prelude.{◌≡◌, ◌<◌, ◌≤◌, ℕ};
 
 use crate::{Answer, Call, Tag};

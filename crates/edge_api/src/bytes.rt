@@ -1,62 +1,79 @@
-// Names and bodies of objects. Copies share the bytes.
+//! Names and bodies of objects. Copies share the bytes.
 ghost use Rattle.std.specs.Prelude.{◌≡◌, IfOk, IsUtf8, string_bytes};
 
-use std::alloc::{AllocError, Global};
+use row_base::{NoMemory, Text};
+use std::alloc::Global;
 use std::cmp::Ordering;
+use std::hash::{Hash, Hasher};
 use std::marker::Model;
 use std::sync::Arc;
 
 /// The name of an object, a text seen as its UTF-8 bytes. Names are ordered by these bytes.
-#[derive(Drop)]
+///
+/// It is no path of a Delta log: a log writes a file's path with escapes (`%20`), and the name has them undone.
+/// So a path is a `Text`, and the two types keep one from being taken for the other.
+#[derive(Debug, Drop)]
 pub struct Name {
-    text: Arc<String>,
+    text: Text,
 }
 
 impl Model for Name {
-    ghost use Rattle.std.specs.Prelude.{List, ℕ, string_bytes};
-    ghost use Rattle.std.specs.Arc.{arc_value};
+    ghost use Rattle.std.specs.Prelude.{List, ℕ};
 
     ghost Value = { List ℕ };
 
-    ghost view = { λ a. string_bytes (arc_value a.text) };
+    ghost view = { λ a. a.text };
 }
 
 impl Name {
-    /// A name of its own, with a copy of the text. The error is want of memory.
-    pub fn make(alloc: Global, text: &str) -> Result<Name, AllocError>
-        ensures { IfOk result (λ n. n ≡ text.now) }
+    /// The name that this text is. It takes no memory.
+    pub fn new(text: Text) -> Name
+        ensures { result ≡ text }
     {
-        Name::from_string(alloc, String::from_str(alloc, text)?)
+        Name { text }
     }
 
-    /// The text as a name. The error is want of memory.
-    pub fn from_string(alloc: Global, text: String) -> Result<Name, AllocError>
+    /// A name of its own, with a copy of the text. The error is want of memory.
+    pub fn make(alloc: Global, text: &str) -> Result<Name, NoMemory>
+        ensures { IfOk result (λ n. n ≡ text.now) }
+    {
+        Ok(Name::new(Text::make(alloc, text)?))
+    }
+
+    /// The text as a name, whose bytes it takes over. The error is want of memory.
+    pub fn from_string(text: String) -> Result<Name, NoMemory>
         ensures { IfOk result (λ n. n ≡ string_bytes text) }
     {
-        match Arc::new(alloc, text) {
-            Ok(text) => Ok(Name { text }),
-            Err(_) => Err(AllocError),
-        }
+        Ok(Name::new(Text::from_string(text)?))
     }
 
     /// Another owner of the same text. The error is want of memory.
-    pub fn copy(&self) -> Result<Name, AllocError>
+    pub fn copy(&self) -> Result<Name, NoMemory>
         ensures { IfOk result (λ n. n ≡ self.now) }
     {
-        Ok(Name {
-            text: Arc::try_clone(&self.text)?,
-        })
+        Ok(Name::new(self.text.copy()?))
+    }
+
+    /// The text of the name. It takes no memory.
+    pub fn into_text(self) -> Text
+        ensures { result ≡ self }
+    {
+        self.text
     }
 
     /// The text of the name.
+    pub fn as_text(&self) -> &Text
+        ensures { result.now ≡ self.now }
+    {
+        &self.text
+    }
+
+    /// The text of the name as a slice.
     pub fn as_str(&self) -> &str
         ensures text { result.now ≡ self.now }
         ensures utf8 { IsUtf8 self.now }
     {
-        let text: &String = &self.text;
-        let text = text.as_str();
-        let _bytes = text.as_bytes();
-        text
+        self.text.as_str()
     }
 
     /// The name's UTF-8 bytes.
@@ -78,7 +95,7 @@ impl PartialEq for Name {
     ghost laws = { Prim.search (comparing, rules) };
 
     fn eq(&self, other: &Name) -> bool {
-        self.as_str() == other.as_str()
+        self.text == other.text
     }
 }
 
@@ -104,7 +121,7 @@ impl Ord for Name {
     ghost matches_eq = { Prim.search (comparing, rules) };
 
     fn cmp(&self, other: &Name) -> Ordering {
-        self.as_str().cmp(other.as_str())
+        self.text.cmp(&other.text)
     }
 }
 
@@ -121,6 +138,20 @@ impl PartialOrd for Name {
 
     fn partial_cmp(&self, other: &Name) -> Option<Ordering> {
         Some(self.cmp(other))
+    }
+}
+
+impl Hash for Name {
+    ghost use Rattle.std.specs.Hash as fed;
+    ghost use Rattle.std.proofs.Common.{rules};
+    ghost use Rattle.std.specs.Cmp.Rules.{hashing};
+
+    ghost hash_input = { λ n. fed.str n };
+
+    ghost respects_eq = { Prim.search (hashing, rules) };
+
+    fn hash<H: Hasher>(&self, state: &mut H) {
+        self.text.hash(state);
     }
 }
 
@@ -141,17 +172,17 @@ impl Model for Body {
 
 impl Body {
     /// The bytes as a body. The error is want of memory.
-    pub fn make(alloc: Global, bytes: Vec<u8>) -> Result<Body, AllocError>
+    pub fn make(alloc: Global, bytes: Vec<u8>) -> Result<Body, NoMemory>
         ensures { IfOk result (λ b. b ≡ bytes.items) }
     {
         match Arc::new(alloc, bytes) {
             Ok(bytes) => Ok(Body { bytes }),
-            Err(_) => Err(AllocError),
+            Err(_) => Err(NoMemory),
         }
     }
 
     /// Another owner of the same bytes. The error is want of memory.
-    pub fn copy(&self) -> Result<Body, AllocError>
+    pub fn copy(&self) -> Result<Body, NoMemory>
         ensures { IfOk result (λ b. b ≡ self.now) }
     {
         Ok(Body {

@@ -1,9 +1,10 @@
-// The calls of an object store, their answers, and the entries of its journal.
+//! The calls of an object store, their answers, and the entries of its journal.
 ghost use Rattle.std.specs.Prelude.{◌≡◌, IfOk};
 ghost use Rattle.edge_api.specs.Journal.{kind_of, name_of};
 
 use crate::{Body, Name};
-use std::alloc::{AllocError, Global};
+use row_base::NoMemory;
+use std::alloc::Global;
 use std::marker::Model;
 use std::sync::Arc;
 
@@ -47,7 +48,7 @@ pub enum CallKind {
 
 impl Call {
     /// The same call, which shares its name and its body. The error is want of memory.
-    pub fn copy(&self) -> Result<Call, AllocError>
+    pub fn copy(&self) -> Result<Call, NoMemory>
         ensures { IfOk result (λ call. call ≡ self.now) }
     {
         match self {
@@ -86,7 +87,7 @@ pub struct Called {
 
 impl Called {
     /// The same, which shares the name. The error is want of memory.
-    pub fn copy(&self) -> Result<Called, AllocError>
+    pub fn copy(&self) -> Result<Called, NoMemory>
         ensures { IfOk result (λ called. called ≡ self.now) }
     {
         Ok(Called {
@@ -128,17 +129,17 @@ impl Model for Listing {
 
 impl Listing {
     /// The items as a listing. The error is want of memory.
-    pub fn make(alloc: Global, items: Vec<Listed>) -> Result<Listing, AllocError>
+    pub fn make(alloc: Global, items: Vec<Listed>) -> Result<Listing, NoMemory>
         ensures { IfOk result (λ l. l ≡ items.items) }
     {
         match Arc::new(alloc, items) {
             Ok(items) => Ok(Listing { items }),
-            Err(_) => Err(AllocError),
+            Err(_) => Err(NoMemory),
         }
     }
 
     /// Another owner of the same items. The error is want of memory.
-    pub fn copy(&self) -> Result<Listing, AllocError>
+    pub fn copy(&self) -> Result<Listing, NoMemory>
         ensures { IfOk result (λ l. l ≡ self.now) }
     {
         Ok(Listing {
@@ -180,7 +181,7 @@ pub enum Answer {
 
 impl Answer {
     /// The same answer, which shares its contents. The error is want of memory.
-    pub fn copy(&self) -> Result<Answer, AllocError>
+    pub fn copy(&self) -> Result<Answer, NoMemory>
         ensures { IfOk result (λ answer. answer ≡ self.now) }
     {
         match self {

@@ -5,18 +5,18 @@
 mod actor;
 mod bytes;
 mod call;
+mod flaky;
 mod memory;
 mod memory_streams;
 mod replay;
 mod std_streams;
 mod stream;
-#[cfg(test)]
-mod tests;
 mod world;
 
 pub use actor::{Actor, Fed, Stage, Step};
 pub use bytes::{Body, Name};
 pub use call::{Answer, Back, Call, CallKind, Called, JournalEntry, Listed, Listing, Object, Tag};
+pub use flaky::{FlakyWorld, How, Trouble};
 pub use memory::MemWorld;
 pub use memory_streams::{MemSink, MemSource};
 pub use replay::replay_journal;

@@ -1,18 +1,19 @@
-// A store in memory, which keeps its journal and never fails.
+//! A store in memory, which keeps its journal.
 ghost use Rattle.std.specs.Prelude.{◌≡◌, ◌≤◌, ◌^◌, [], ◌∷◌, ◌++◌, Some, IfOk, IfErr, OnOk, OnErr};
 ghost use Rattle.std.specs.Option.{option_copied, option_map};
 ghost use Rattle.edge_api.specs.Journal.{object_at, with_object, without_object, listing, answer_of, effect_of, HasLegalCompletion, IsOfKind};
-ghost use Rattle.edge_api.specs.Memory.{clock_after, memory_answer, memory_after};
+ghost use Rattle.edge_api.specs.Memory.{clock_after, memory_answer, memory_after, memory_after_fault};
 ghost use Rattle.edge_api.specs.World.{Grows, FaultHasCause};
 
-use crate::{Answer, Back, Body, Call, JournalEntry, Listed, Listing, Name, Object, Tag, World};
-use std::alloc::{AllocError, Global};
+use crate::{
+    Answer, Back, Body, Call, How, JournalEntry, Listed, Listing, Name, Object, Tag, World,
+};
+use row_base::NoMemory;
+use row_base::limits::LAST_TIME;
+use std::alloc::Global;
 use std::collections::BTreeMap;
 use std::marker::Model;
 use std::ops::Bound;
-
-/// The greatest reading of a clock, in milliseconds.
-const LAST_TIME: u64 = 1 << 61;
 
 fn object_of<'a>(objects: &'a BTreeMap<Name, Object>, name: &Name) -> Option<&'a Object>
     ensures { option_copied result ≡ object_at objects.now.entries name.now }
@@ -25,7 +26,7 @@ fn listing_of(
     alloc: Global,
     objects: &BTreeMap<Name, Object>,
     prefix: &Name,
-) -> Result<Listing, AllocError>
+) -> Result<Listing, NoMemory>
     ensures { IfOk result (λ l. l ≡ listing objects.now.entries prefix.now) }
 {
     let mut items = Vec::new(alloc);
@@ -59,7 +60,7 @@ fn answer_to(
     objects: &BTreeMap<Name, Object>,
     clock: u64,
     call: &Call,
-) -> Result<Answer, AllocError>
+) -> Result<Answer, NoMemory>
     ensures { IfOk result (λ answer. answer ≡ answer_of objects.now.entries clock call.now) }
 {
     match call {
@@ -84,7 +85,7 @@ fn put_object(
     clock: u64,
     name: &Name,
     body: &Body,
-) -> Result<(), AllocError>
+) -> Result<(), NoMemory>
     ensures ok { OnOk result (objects.new.entries ≡ with_object objects.old.entries name.now (record { body = body.now; put_at = clock })) }
     ensures err { OnErr result (objects.new.entries ≡ objects.old.entries) }
 {
@@ -107,7 +108,7 @@ fn change_objects(
     objects: &mut BTreeMap<Name, Object>,
     clock: u64,
     call: &Call,
-) -> Result<(), AllocError>
+) -> Result<(), NoMemory>
     ensures ok { OnOk result (objects.new.entries ≡ effect_of objects.old.entries clock call.now) }
     ensures err { OnErr result (objects.new.entries ≡ objects.old.entries) }
 {
@@ -125,7 +126,51 @@ fn change_objects(
     }
 }
 
-/// Makes a call and writes it into the journal.
+/// Does a call and writes it into the journal with what is heard of it.
+fn do_call(
+    objects: &mut BTreeMap<Name, Object>,
+    journal: &mut Vec<JournalEntry>,
+    clock: &mut u64,
+    tag: Tag,
+    call: &Call,
+    heard: &Answer,
+) -> Result<(), NoMemory>
+    requires { clock.old ≤ 2 ^ 61 }
+    ensures objects { OnOk result (objects.new.entries ≡ effect_of objects.old.entries clock.new call.now) }
+    ensures journal { OnOk result (journal.new.items ≡ journal.old.items ++ record { tag = tag; call = call.now; answer = heard.now } ∷ []) }
+    ensures clock { OnOk result (clock.new ≡ clock_after clock.old call.now) }
+    ensures same_objects { OnErr result (objects.new.entries ≡ objects.old.entries) }
+    ensures same_journal { OnErr result (journal.new.items ≡ journal.old.items) }
+    ensures same_clock { OnErr result (clock.new ≡ clock.old) }
+{
+    let later = clock_of(*clock, call);
+    let entry = JournalEntry {
+        tag,
+        call: call.copy()?,
+        answer: heard.copy()?,
+    };
+    journal.reserve(1)?;
+    change_objects(objects, later, call)?;
+    journal.push(entry).unwrap();
+    *clock = later;
+    Ok(())
+}
+
+/// Writes a call that isn't done into the journal.
+fn skip_call(journal: &mut Vec<JournalEntry>, tag: Tag, call: &Call) -> Result<(), NoMemory>
+    ensures ok { OnOk result (journal.new.items ≡ journal.old.items ++ record { tag = tag; call = call.now; answer = Answer.Fault } ∷ []) }
+    ensures err { OnErr result (journal.new.items ≡ journal.old.items) }
+{
+    let entry = JournalEntry {
+        tag,
+        call: call.copy()?,
+        answer: Answer::Fault,
+    };
+    journal.push(entry)?;
+    Ok(())
+}
+
+/// Makes a call, which is answered.
 fn make_call(
     alloc: Global,
     objects: &mut BTreeMap<Name, Object>,
@@ -133,7 +178,7 @@ fn make_call(
     clock: &mut u64,
     tag: Tag,
     call: &Call,
-) -> Result<Answer, AllocError>
+) -> Result<Answer, NoMemory>
     requires { clock.old ≤ 2 ^ 61 }
     ensures answer { IfOk result (λ answer. answer ≡ answer_of objects.old.entries clock.new call.now) }
     ensures objects { OnOk result (objects.new.entries ≡ effect_of objects.old.entries clock.new call.now) }
@@ -143,21 +188,33 @@ fn make_call(
     ensures same_journal { OnErr result (journal.new.items ≡ journal.old.items) }
     ensures same_clock { OnErr result (clock.new ≡ clock.old) }
 {
-    let later = clock_of(*clock, call);
-    let answer = answer_to(alloc, objects, later, call)?;
-    let entry = JournalEntry {
-        tag,
-        call: call.copy()?,
-        answer: answer.copy()?,
-    };
-    journal.reserve(1)?;
-    change_objects(objects, later, call)?;
-    journal.push(entry).unwrap();
-    *clock = later;
+    let answer = answer_to(alloc, objects, clock_of(*clock, call), call)?;
+    do_call(objects, journal, clock, tag, call, &answer)?;
     Ok(answer)
 }
 
-/// A store in memory. It keeps the journal of its calls, and it never fails.
+/// Makes a call, which fails.
+fn fail_call(
+    objects: &mut BTreeMap<Name, Object>,
+    journal: &mut Vec<JournalEntry>,
+    clock: &mut u64,
+    tag: Tag,
+    call: &Call,
+    how: How,
+) -> Result<(), NoMemory>
+    requires { clock.old ≤ 2 ^ 61 }
+    ensures ok { OnOk result (record { journal = journal.new.items; objects = objects.new.entries; clock = clock.new } ≡ memory_after_fault (record { journal = journal.old.items; objects = objects.old.entries; clock = clock.old }) tag call.now how) }
+    ensures same_objects { OnErr result (objects.new.entries ≡ objects.old.entries) }
+    ensures same_journal { OnErr result (journal.new.items ≡ journal.old.items) }
+    ensures same_clock { OnErr result (clock.new ≡ clock.old) }
+{
+    match how {
+        How::NotDone => skip_call(journal, tag, call),
+        How::DoneUnheard => do_call(objects, journal, clock, tag, call, &Answer::Fault),
+    }
+}
+
+/// A store in memory. It keeps the journal of its calls, and it never fails of itself.
 #[derive(Drop)]
 pub struct MemWorld {
     alloc: Global,
@@ -197,11 +254,31 @@ impl MemWorld {
         object_of(&self.objects, name).map(|object| &object.body)
     }
 
-    /// The calls so far with their answers.
+    /// The calls so far with the answers that were heard.
     pub fn journal(&self) -> &[JournalEntry]
         ensures { result.now ≡ self.now.journal }
     {
         &self.journal
+    }
+
+    /// Makes a call whose answer is `Fault`. The error is want of memory: it hands the call back, and nothing has changed.
+    pub(crate) fn fail(&mut self, tag: Tag, call: Call, how: How) -> Result<(), Back>
+        ensures ok { OnOk result (self.new ≡ memory_after_fault self.old tag call how) }
+        ensures completion { HasLegalCompletion self.new.journal }
+        ensures back { IfErr result (λ back. back.call ≡ call) }
+        ensures unchanged { OnErr result (self.new ≡ self.old) }
+    {
+        match fail_call(
+            &mut self.objects,
+            &mut self.journal,
+            &mut self.clock,
+            tag,
+            &call,
+            how,
+        ) {
+            Ok(()) => Ok(()),
+            Err(_) => Err(Back { call }),
+        }
     }
 }
 

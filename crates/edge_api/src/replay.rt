@@ -1,14 +1,15 @@
-// A plain replay of a journal, which goes over all objects for each call.
+//! A plain replay of a journal, which goes over all objects for each call.
 ghost use Rattle.std.specs.Prelude.{◌≡◌, ◌≤◌, ◌<◌, ◌+◌, ◌^◌, ◌++◌, ◌∷◌, [], length, not, take, drop, slice_set, IfOk, OnOk, MatchResult};
 ghost use Rattle.std.specs.Str.{bytes_eq};
 ghost use Rattle.std.specs.Option.{option_copied};
 ghost use Rattle.edge_api.specs.declared.call.Object.{Object};
-ghost use Rattle.edge_api.specs.Journal.{object_at, with_object, without_object, effect_of, after};
-ghost use Rattle.edge_api.specs.Replay.{moment_at, replayed};
+ghost use Rattle.edge_api.specs.Journal.{object_at, with_object, without_object, effect_of, after_moment};
+ghost use Rattle.edge_api.specs.Replay.{moment_at, replay_objects};
 
 use crate::memory::clock_of;
 use crate::{Answer, Body, Call, JournalEntry, Name, Object};
-use std::alloc::{AllocError, Global};
+use row_base::NoMemory;
+use std::alloc::Global;
 use std::cmp::Ordering;
 
 fn find<'a>(objects: &'a [(Name, Object)], name: &Name) -> Option<&'a Object>
@@ -44,7 +45,7 @@ fn put(
     clock: u64,
     name: &Name,
     body: &Body,
-) -> Result<(), AllocError>
+) -> Result<(), NoMemory>
     ensures { OnOk result (objects.new.items ≡ with_object objects.old.items name.now (record { body = body.now; put_at = clock })) }
 {
     let object = (
@@ -71,7 +72,7 @@ fn remove(objects: &mut Vec<(Name, Object)>, name: &Name)
     );
 }
 
-fn change(objects: &mut Vec<(Name, Object)>, clock: u64, call: &Call) -> Result<(), AllocError>
+fn change(objects: &mut Vec<(Name, Object)>, clock: u64, call: &Call) -> Result<(), NoMemory>
     ensures { OnOk result (objects.new.items ≡ effect_of objects.old.items clock call.now) }
 {
     match call {
@@ -92,8 +93,8 @@ fn replay_entry(
     objects: &mut Vec<(Name, Object)>,
     clock: u64,
     entry: &JournalEntry,
-) -> Result<(), AllocError>
-    ensures { OnOk result (objects.new.items ≡ after objects.old.items (moment_at clock entry.now)) }
+) -> Result<(), NoMemory>
+    ensures { OnOk result (objects.new.items ≡ after_moment objects.old.items (moment_at clock entry.now)) }
 {
     match entry.answer {
         Answer::Fault => Ok(()),
@@ -108,9 +109,9 @@ pub fn replay_journal(
     alloc: Global,
     start: u64,
     journal: &[JournalEntry],
-) -> Result<Vec<(Name, Object)>, AllocError>
+) -> Result<Vec<(Name, Object)>, NoMemory>
     requires { start ≤ 2 ^ 61 }
-    ensures { IfOk result (λ v. v.items ≡ replayed start journal.now) }
+    ensures { IfOk result (λ v. v.items ≡ replay_objects start journal.now) }
 {
     let mut objects = Vec::new(alloc);
     let mut clock = start;

@@ -1,4 +1,4 @@
-// Adapters over a reader and a writer of std, which count the errors.
+//! Adapters over a reader and a writer of std, which count the errors.
 ghost use Rattle.std.specs.Prelude.{◌≡◌, ◌≤◌, ◌<◌, length, is_err, if◌then◌else◌, IfOk, OnErr};
 ghost use Rattle.std.specs.Io.{ReadsAtMost, WritesAtMost};
 ghost use Rattle.std.specs.Io.KnownBytes.{ReadConsumes, WriteAppends};

@@ -1,4 +1,4 @@
-// A source and a sink of bytes.
+//! A source and a sink of bytes.
 ghost use Rattle.std.specs.Prelude.{◌≡◌, ◌≢◌, ◌≤◌, ◌<◌, ℕ, List, length, vec_len, true, false, Option, IfOk, OnOk, IfErr, OnErr};
 ghost use Rattle.std.specs.Io.{ReadsAtMost, WritesAtMost};
 ghost use Rattle.std.specs.Io.KnownBytes.{ReadConsumes, WriteAppends, Consumes, Keeps, IsAtEnd, Appends};

@@ -1,4 +1,4 @@
-// An object store, seen by the journal of its calls.
+//! An object store, seen by the journal of its calls.
 ghost use Rattle.std.specs.Prelude.{◌≡◌, ◌≤◌, ℕ, List, [], ◌∷◌, ◌++◌, Option, IfOk, IfErr, OnErr, IfSome};
 ghost use Rattle.edge_api.specs.declared.call.JournalEntry.{JournalEntry};
 ghost use Rattle.edge_api.specs.Journal.{HasLegalCompletion, IsOfKind};
