@@ -9,9 +9,9 @@ ghost use Rattle.parquet_meta.specs.Structs.{fields_of, needed};
 use crate::fault::FileFault;
 use crate::items::Items;
 use crate::reader::{Header, Reader};
-use row_base::Text;
+use row_base::{NoMemory, Text};
 use std::alloc::Global;
-use thrift_compact::{Appender, Field, NoMemory, Wire};
+use thrift_compact::{Appender, Field, Wire};
 
 /// What is known of a struct while its fields are read. Memory is taken from an `M`: `Global`, or `()` where none is.
 pub(crate) trait Fields<M>: Drop {

@@ -13,9 +13,9 @@ use crate::known::{ChunkKnown, ColumnKnown, ElementKnown, FileKnown, GroupKnown}
 use crate::meta::{ColumnChunk, ColumnMetaData, FileMeta, RowGroup, SchemaElement};
 use crate::reader::{Header, Reader};
 use crate::written::{write_chunk, write_element, write_group};
-use row_base::{Text, Texts};
+use row_base::{NoMemory, Text, Texts};
 use std::alloc::Global;
-use thrift_compact::{Appender, NoMemory, Wire};
+use thrift_compact::{Appender, Wire};
 
 impl Element for i64 {
     ghost kind = { wires.I32 };
