@@ -21,6 +21,3 @@ pub use head::{DataPageHead, DictionaryPageHead, PageAt, PageHead};
 pub use items::Items;
 pub use laws::{reading_is_exact, written_is_read};
 pub use meta::{ColumnChunk, ColumnMetaData, FileMeta, RowGroup, SchemaElement};
-
-#[cfg(test)]
-mod tests;

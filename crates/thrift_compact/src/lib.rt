@@ -16,6 +16,3 @@ pub use fault::ThriftFault;
 pub use laws::{reading_is_exact, written_is_read};
 pub use plain::plain_number;
 pub use wire::{Field, ListHead, Wire};
-
-#[cfg(test)]
-mod tests;
