@@ -5,7 +5,7 @@ Usage, at the top of the repository: bench/gate.py [WORD..] 2>LOG; `rt ci` is ru
 --anew), and what it writes goes to standard error. Once it has ended, or was interrupted, the table stands on standard
 output, in Markdown, and this script ends with its status.
 
-Four times a second the gate's checks are read from /proc: the times of each process and of those that it started. The
+Four times a second the gate's checks are read from /proc: the time of each process and of those that it started. The
 crate of a check is its `--crate-name`, its kind is told by its words (tests have `--test`) and by its folder (an edit is
 tried on a copy of the crate in a folder `rt-edit-..`). What a check takes after the last look at it is not in its crate's
 row. It is in the last row with what else the gate took (rt itself, links, runs of tests and programs), since the sum is the
@@ -25,8 +25,8 @@ PAUSE = 0.25
 MOST = 7
 TICKS = os.sysconf("SC_CLK_TCK")
 
-# A process: its parent, its name, when it began, and the seconds that it took with those of its children that have ended.
-Process = collections.namedtuple("Process", "parent name start seconds")
+# A process: its name, when it began, and the seconds that it took with those of its children that have ended.
+Process = collections.namedtuple("Process", "name start seconds")
 
 
 def process(number):
@@ -37,13 +37,18 @@ def process(number):
         return None
     before, _, after = text.rpartition(")")
     fields = after.split()
-    return Process(int(fields[1]), before.partition("(")[2], fields[19], sum(map(int, fields[11:15])) / TICKS)
+    return Process(before.partition("(")[2], fields[19], sum(map(int, fields[11:15])) / TICKS)
 
 
-def processes():
-    """All processes of the machine by their numbers, those that began first before the others."""
-    found = {int(it): process(it) for it in os.listdir("/proc") if it.isdigit()}
-    return dict(sorted(((at, it) for at, it in found.items() if it), key=lambda pair: int(pair[1].start)))
+def children(number):
+    """The numbers of the processes that a process has started, and that have not ended."""
+    found = []
+    for tasks in pathlib.Path(f"/proc/{number}/task").glob("*/children"):
+        try:
+            found += map(int, tasks.read_text().split())
+        except OSError:
+            pass
+    return found
 
 
 def crate_and_kind(number):
@@ -67,29 +72,29 @@ class Checks:
 
     def look(self):
         """Looks once at all checks that run now."""
-        found = processes()
-        # the gate's own descendants, each with the check that it belongs to, if to any
-        tops, sums = {self.gate: None}, collections.Counter()
-        for number, it in found.items():
-            if it.parent not in tops:
+        sums = collections.Counter()
+        # the gate and what it started, each with the check that it belongs to, if to any
+        places = [(self.gate, None)]
+        while places:
+            number, check = places.pop()
+            it = process(number)
+            if not it:
                 continue
-            top = tops[it.parent]
-            if top is None and it.name == "rattle":
-                top = number, it.start
-            tops[number] = top
-            if top:
-                sums[top] += it.seconds
-        for top, seconds in sums.items():
-            if top not in self.labels:
-                self.labels[top] = crate_and_kind(top[0])
-            self.seconds[top] = seconds
+            if check is None and it.name == "rattle":
+                check = number, it.start
+                if check not in self.labels:
+                    self.labels[check] = crate_and_kind(number)
+            if check:
+                sums[check] += it.seconds
+            places += [(child, check) for child in children(number)]
+        self.seconds.update(sums)
 
     def table(self):
         """The seconds by crate and kind."""
         rows = collections.defaultdict(collections.Counter)
-        for top, seconds in self.seconds.items():
-            if self.labels[top]:
-                crate, kind = self.labels[top]
+        for check, seconds in self.seconds.items():
+            if self.labels[check]:
+                crate, kind = self.labels[check]
                 rows[crate][kind] += seconds
         return rows
 
