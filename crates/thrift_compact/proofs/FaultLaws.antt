@@ -5,7 +5,7 @@ use Rattle.std.proofs.lemmas.List.{append-nil, length-append, length-drop, lengt
 use Rattle.thrift_compact.specs.declared.fault.ThriftFault.{ThriftFault}
 use Rattle.thrift_compact.specs.declared.fault.ThriftFault.TheVariants as faults
 use Rattle.thrift_compact.specs.Varints.{Varint, number, ends, long, continued, varint, unzigzag}
-use Rattle.thrift_compact.specs.Places.{◌>>=◌}
+use Rattle.row_base.specs.Faults.{◌>>=◌}
 use Rattle.thrift_compact.specs.Values.{varint_here, varint_at, number_at}
 use Rattle.thrift_compact.specs.Laws.{GoOn, NumberFault, cut, many, wide}
 use Rattle.thrift_compact.proofs.Standing.{front_of, stands_make}

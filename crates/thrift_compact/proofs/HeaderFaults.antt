@@ -8,7 +8,7 @@ use Rattle.thrift_compact.specs.declared.wire.Wire.{Wire}
 use Rattle.thrift_compact.specs.declared.wire.Field.{Field}
 use Rattle.thrift_compact.specs.declared.wire.Field.TheVariants as fields
 use Rattle.thrift_compact.specs.declared.wire.ListHead.{ListHead}
-use Rattle.thrift_compact.specs.Places.{◌>>=◌}
+use Rattle.row_base.specs.Faults.{◌>>=◌}
 use Rattle.thrift_compact.specs.Values.{varint_at, size_at, number_at, behind, binary_at, byte_at, wire_of, known, fits_16, field_here, field_at, list_at}
 use Rattle.thrift_compact.specs.Writing.{code_of}
 use Rattle.thrift_compact.specs.Laws.{Stands, SizeFault, varint, large, BinaryFault, length_fault, content, IsUnknown, ListFault, FieldFault, past, unknown, sized, numbered, large_id, large_sum}
