@@ -18,7 +18,7 @@ use Rattle.parquet_meta.specs.declared.known.ElementKnown.{ElementKnown}
 use Rattle.parquet_meta.specs.declared.known.GroupKnown.{GroupKnown}
 use Rattle.parquet_meta.specs.declared.known.ChunkKnown.{ChunkKnown}
 use Rattle.parquet_meta.specs.declared.known.ColumnKnown.{ColumnKnown}
-use Rattle.parquet_meta.specs.Faults.{◌>>=◌}
+use Rattle.row_base.specs.Faults.{◌>>=◌}
 use Rattle.parquet_meta.specs.Pieces.{Piece}
 use Rattle.parquet_meta.specs.Values.{typed, text_in, list_in, number_in, number_of, put, passed}
 use Rattle.parquet_meta.specs.Structs.{struct_of, needed}

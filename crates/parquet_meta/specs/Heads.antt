@@ -15,7 +15,7 @@ use Rattle.parquet_meta.specs.declared.known.DictionaryKnown.{DictionaryKnown}
 use Rattle.parquet_meta.specs.declared.known.HeadNumbers.{HeadNumbers}
 use Rattle.parquet_meta.specs.declared.known.DataNumbers.{DataNumbers}
 use Rattle.parquet_meta.specs.declared.known.DictionaryNumbers.{DictionaryNumbers}
-use Rattle.parquet_meta.specs.Faults.{◌>>=◌}
+use Rattle.row_base.specs.Faults.{◌>>=◌}
 use Rattle.parquet_meta.specs.Pieces.{Piece}
 use Rattle.parquet_meta.specs.Values.{typed, number_in, skipped_in, put, passed}
 use Rattle.parquet_meta.specs.Structs.{struct_of, needed}

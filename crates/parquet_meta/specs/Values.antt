@@ -10,7 +10,8 @@ use Rattle.thrift_compact.specs.Skipped.{skipped_at}
 use Rattle.thrift_compact.specs.Writing.{code_of}
 use Rattle.parquet_meta.specs.declared.fault.FileFault.{FileFault}
 use Rattle.parquet_meta.specs.declared.fault.FileFault.TheVariants as faults
-use Rattle.parquet_meta.specs.Faults.{located, ◌>>=◌}
+use Rattle.row_base.specs.Faults.{◌>>=◌}
+use Rattle.parquet_meta.specs.Faults.{located}
 use Rattle.parquet_meta.specs.Pieces.{Piece}
 
 -- ---- single values

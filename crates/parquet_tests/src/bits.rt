@@ -1,6 +1,7 @@
+//! Kernels, lists of values and hybrids: known bytes, and a reader bit by bit beside them.
 ghost use Rattle.std.specs.Prelude.{◌^◌, ◌<◌, ◌≤◌};
 
-use super::*;
+use bit_pack::{PackFault, pack, pack8, plain_value, read_hybrid, unpack, unpack8, write_hybrid};
 use std::alloc::{AllocError, Global};
 use std::test::Fail;
 

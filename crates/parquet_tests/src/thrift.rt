@@ -1,5 +1,6 @@
-use super::*;
+//! Thrift values: the head of a page, values that are passed over, damaged ones, and a plain reader of numbers.
 use std::test::Fail;
+use thrift_compact::{Appender, Cursor, Field, ListHead, ThriftFault, Wire, plain_number};
 
 /// The head of a Parquet page: a data page of 8 bytes and 1 value.
 const PAGE_HEAD: [u8; 17] = [

@@ -1,5 +1,5 @@
 //! A file of one row, its parts written and read again, and damaged ones.
-use crate::{
+use parquet_meta::{
     FileFault, FileMeta, PageAt, read_footer, read_page_head, write_footer, write_page_head,
 };
 use std::alloc::Global;
