@@ -8,8 +8,6 @@ mod partition;
 mod partition_written;
 mod schema;
 mod schema_written;
-#[cfg(test)]
-mod tests;
 
 pub use fault::SchemaTextFault;
 pub use partition::read_partition;

@@ -1,8 +1,8 @@
 //! Texts from outside: schemas written by hand, foreign and damaged ones, and values of partition columns.
 
-use crate::{SchemaTextFault, read_partition, read_schema, write_partition, write_schema};
 use json_lines::{PartitionMap, PartitionValue};
 use row_base::{NoMemory, Schema, Text};
+use schema_text::{SchemaTextFault, read_partition, read_schema, write_partition, write_schema};
 use std::alloc::Global;
 use std::test::Fail;
 
@@ -111,6 +111,26 @@ fn foreign_schemas(rt: HostRuntime) {
         ),
     ] {
         assert!(rt; ending(rt.alloc(), text, false) == wanted);
+    }
+}
+
+#[test]
+fn the_first_fault_by_place(rt: HostRuntime) {
+    for (text, wanted) in [
+        (
+            r#"{"type":"struct","fields":[{"name":"c","type":"decimal(5,2)","nullable":true,"metadata":{"delta.invariants":"{}"}},{"name":"v"}]}"#,
+            Outcome::Kind,
+        ),
+        (
+            r#"{"type":"struct","fields":[{"name":"c","type":"long","nullable":true,"metadata":{"delta.invariants":"{}"}},{"name":"v","type":"void","nullable":true,"metadata":{}}]}"#,
+            Outcome::Invariant,
+        ),
+        (
+            r#"{"type":"struct","fields":[{"name":"v","type":"long","nullable":true,"metadata":{}},{"name":"v","type":"void","nullable":true,"metadata":{}}]}"#,
+            Outcome::Shape,
+        ),
+    ] {
+        assert!(rt; ending(rt.alloc(), text, true) == wanted);
     }
 }
 
