@@ -141,6 +141,6 @@ unfolding sidecar_of
 sidecar_back s h =
     let D : Data = object (members_of (sidecar_fields s)) in
     let is_path : needed as_str (codes "path") D ≡ Some s.path = needed_in as_str (codes "path") (sidecar_fields s) in
-    let is_size_in_bytes : needed as_amount (codes "sizeInBytes") D ≡ Some s.size_in_bytes = needed_in as_amount (codes "sizeInBytes") (sidecar_fields s) ∙ amount_back s.size_in_bytes h.0 in
-    let is_modification_time : optional as_amount (codes "modificationTime") D ≡ Some s.modification_time = optional_in as_amount (codes "modificationTime") (sidecar_fields s) ∙ optional_back as_amount integer_data s.modification_time (if_some s.modification_time amount_back h.1) in
-    rw (is_path, is_size_in_bytes, is_modification_time) refl
+    let is_size_in_bytes : needed as_amount (codes "sizeInBytes") D ≡ Some s.size_in_bytes = needed_in as_amount (codes "sizeInBytes") (sidecar_fields s) ∙ amount_back s.size_in_bytes h.1 in
+    let is_modification_time : optional as_amount (codes "modificationTime") D ≡ Some s.modification_time = optional_in as_amount (codes "modificationTime") (sidecar_fields s) ∙ optional_back as_amount integer_data s.modification_time (if_some s.modification_time amount_back h.2) in
+    rw (is_path, h.0.1.named, is_size_in_bytes, is_modification_time) refl

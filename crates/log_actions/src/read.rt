@@ -226,6 +226,7 @@ fn read_sidecar(alloc: Global, body: &Value) -> Result<Sidecar, ShapeFault>
     ensures { Gives result (spec.sidecar_of (view body.now)) }
 {
     let path = needed_text(alloc, body, "path")?;
+    let _name = name_of_path(alloc, &path)?;
     let size_in_bytes = needed_integer(body, "sizeInBytes", MAX_AMOUNT)?;
     let modification_time = optional_integer(body, "modificationTime", MAX_AMOUNT)?;
     Ok(Sidecar {
