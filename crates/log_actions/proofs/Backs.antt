@@ -4,8 +4,9 @@ use Rattle.std.specs.Prelude.{IfSome}
 use Rattle.std.proofs.lemmas.Bool.Decides.{nat_tests}
 use Rattle.serde_json.specs.Data.{Data, boolean, string, object}
 use Rattle.serde_json.specs.Find.{as_str, as_bool}
-use Rattle.json_lines.specs.Kinds.{as_integer, as_texts, as_text_map, as_partition_map, needed, optional}
-use Rattle.json_lines.specs.Written.{integer_data, texts_data, text_map_data, partition_data}
+use Rattle.json_lines.specs.Kinds.{as_integer, as_texts, as_text_map, needed, optional}
+use Rattle.json_lines.specs.Written.{integer_data, texts_data, text_map_data}
+use Rattle.log_actions.specs.PartitionMaps.{as_partition_map, partition_data}
 use Rattle.log_actions.specs.declared.action.Protocol.{Protocol}
 use Rattle.log_actions.specs.declared.action.Format.{Format}
 use Rattle.log_actions.specs.declared.action.MetaData.{MetaData}

@@ -4,10 +4,11 @@ use Rattle.std.specs.Prelude.{IfSome, unwrap_or}
 use Rattle.std.proofs.lemmas.Bool.Decides.{nat_tests}
 use Rattle.serde_json.specs.Data.{Data, null, boolean, number, string, array, object}
 use Rattle.serde_json.specs.Find.{as_str, as_bool, as_number, as_u64}
-use Rattle.json_lines.specs.Gives.{◌>>=◌}
-use Rattle.json_lines.specs.Kinds.{as_itself, as_integer, up_to, as_texts, as_text_map, as_partition_map, present, needed, optional, if_there}
+use Rattle.row_base.specs.Readings.{◌>>=◌}
+use Rattle.json_lines.specs.Kinds.{as_itself, as_integer, up_to, as_texts, as_text_map, present, needed, optional, if_there}
 use Rattle.json_lines.specs.Lines.{object_of_line}
 use Rattle.json_lines.specs.Single.{single_member}
+use Rattle.log_actions.specs.PartitionMaps.{as_partition_map}
 use Rattle.log_actions.specs.declared.action.Format.{Format}
 use Rattle.log_actions.specs.declared.action.Protocol.{Protocol}
 use Rattle.log_actions.specs.declared.action.MetaData.{MetaData}

@@ -3,8 +3,9 @@ use Rattle.std.specs.Prelude.{ℕ, ◌^◌, ◌-◌, List, codes, if◌then◌el
 use Rattle.std.specs.Str.{bytes_eq}
 use Rattle.serde_json.specs.Data.{Data}
 use Rattle.serde_json.specs.Find.{as_str, as_bool}
-use Rattle.json_lines.specs.Gives.{◌>>=◌}
-use Rattle.json_lines.specs.Kinds.{as_itself, as_integer, as_texts, as_text_map, as_partition_map, present, needed, optional}
+use Rattle.row_base.specs.Readings.{◌>>=◌}
+use Rattle.json_lines.specs.Kinds.{as_itself, as_integer, as_texts, as_text_map, present, needed, optional}
+use Rattle.log_actions.specs.PartitionMaps.{as_partition_map}
 use Rattle.log_actions.specs.Paths.{name_of_path, is_absolute}
 use Rattle.log_actions.specs.declared.action.Protocol.{Protocol}
 use Rattle.log_actions.specs.declared.action.Format.{Format}

@@ -2,7 +2,8 @@
 use Rattle.std.specs.Prelude.{ℕ, List, [], ◌∷◌, codes, Option, Some, None, option_map}
 use Rattle.std.specs.List.{flat_map}
 use Rattle.serde_json.specs.Data.{Data, boolean, string, object, Members, no_members}
-use Rattle.json_lines.specs.Written.{with_member, integer_data, texts_data, text_map_data, partition_data, single_object, line_text}
+use Rattle.json_lines.specs.Written.{with_member, integer_data, texts_data, text_map_data, single_object, line_text}
+use Rattle.log_actions.specs.PartitionMaps.{partition_data}
 use Rattle.log_actions.specs.declared.action.Protocol.{Protocol}
 use Rattle.log_actions.specs.declared.action.Format.{Format}
 use Rattle.log_actions.specs.declared.action.MetaData.{MetaData}

@@ -2,4 +2,8 @@
 #![tactic(auto)]
 
 #[cfg(test)]
+mod commits;
+#[cfg(test)]
+mod rules;
+#[cfg(test)]
 mod schemas;

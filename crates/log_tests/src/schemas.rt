@@ -1,6 +1,6 @@
 //! Texts from outside: schemas written by hand, foreign and damaged ones, and values of partition columns.
 
-use json_lines::{PartitionMap, PartitionValue};
+use log_actions::{PartitionMap, PartitionValue};
 use row_base::{NoMemory, Schema, Text};
 use schema_text::{SchemaTextFault, read_partition, read_schema, write_partition, write_schema};
 use std::alloc::Global;

@@ -13,7 +13,8 @@ use Rattle.row_base.proofs.SchemaLemmas.{schema_complete}
 use Rattle.schema_text.specs.declared.field.Field.{Field}
 use Rattle.schema_text.specs.declared.fault.SchemaTextFault.{SchemaTextFault}
 use Rattle.schema_text.specs.declared.fault.SchemaTextFault.TheVariants as faults
-use Rattle.schema_text.specs.Faults.{FaultOf, ◌>>=◌}
+use Rattle.row_base.specs.Faults.{FaultOf, ◌>>=◌}
+use Rattle.schema_text.specs.Faults.{is_memory}
 use Rattle.schema_text.specs.Fields.{field_of, fields_of_text}
 use Rattle.schema_text.specs.FirstFault.{items_list, HasShape, IsColumn, StandFor, nothing, next, IsFieldFault, IsFirstFieldFault, IsTextOf, IsFirstFault, no_struct, of_field, no_schema}
 use Rattle.schema_text.specs.Schema.{or_shape, shape_of, column_of_kind, column_of, next_column, columns_from, places_in, schema_at, schema_by, schema_of}
@@ -127,7 +128,7 @@ text_says text names = by_fields text names (fields_of_text text) refl
 pub schema_read : (text : List ℕ) (names : List (List ℕ)) (s : TableSchema) → schema_of text names ≡ Ok s → IsTextOf text names s
 schema_read text names s e = subst (SaysText text names) e (text_says text names)
 
-pub first_fault : (text : List ℕ) (names : List (List ℕ)) (e : SchemaTextFault) → FaultOf e (schema_of text names) → e ≢ faults.NoMemory → IsFirstFault text names e
+pub first_fault : (text : List ℕ) (names : List (List ℕ)) (e : SchemaTextFault) → FaultOf is_memory e (schema_of text names) → e ≢ faults.NoMemory → IsFirstFault text names e
 first_fault text names faults.Shape is other = subst (SaysText text names) is (text_says text names)
 first_fault text names (faults.Kind name) is other = subst (SaysText text names) is (text_says text names)
 first_fault text names (faults.Invariant name) is other = subst (SaysText text names) is (text_says text names)

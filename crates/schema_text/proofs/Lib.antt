@@ -1,4 +1,3 @@
-pub mod Decimals
 pub mod ValuesBack
 pub mod DatesRead
 pub mod FirstFaults

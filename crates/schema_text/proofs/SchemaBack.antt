@@ -13,7 +13,7 @@ use Rattle.row_base.specs.declared.schema.SchemaFault.TheVariants as schema
 use Rattle.row_base.specs.Schema.{TableSchema, IsSchema, first_after, is_named, repeats_name, is_wrong_place, is_column_count, schema_fault}
 use Rattle.row_base.proofs.SchemaLemmas.{schema_complete}
 use Rattle.schema_text.specs.declared.field.Field.{Field}
-use Rattle.schema_text.specs.Faults.{◌>>=◌}
+use Rattle.row_base.specs.Faults.{◌>>=◌}
 use Rattle.schema_text.specs.Fields.{kind_named, field_of, is_struct, struct_fields, fields_of_text}
 use Rattle.schema_text.specs.Schema.{or_shape, shape_of, column_of, next_column, columns_from, places_in, schema_at, schema_by, schema_of}
 use Rattle.schema_text.specs.SchemaWritten.{kind_text, field_data, fields_data, schema_data}

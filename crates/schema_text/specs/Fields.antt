@@ -3,7 +3,7 @@ use Rattle.std.specs.Prelude.{ℕ, Bool, false, if◌then◌else◌, List, codes
 use Rattle.std.specs.Str.{bytes_eq}
 use Rattle.serde_json.specs.Data.{Data, null, boolean, number, string, array, object, Items}
 use Rattle.serde_json.specs.Find.{as_str, as_bool, as_array}
-use Rattle.json_lines.specs.Gives.{◌>>=◌}
+use Rattle.row_base.specs.Readings.{◌>>=◌}
 use Rattle.json_lines.specs.Kinds.{as_itself, present, needed}
 use Rattle.json_lines.specs.Lines.{object_of_line}
 use Rattle.row_base.specs.declared.row.Kind.{Kind}

@@ -1,7 +1,6 @@
 pub mod Faults
 pub mod Fields
 pub mod FirstFault
-pub mod Numbers
 pub mod Partition
 pub mod PartitionWritten
 pub mod Schema

@@ -11,7 +11,7 @@ use Rattle.row_base.specs.Schema.{TableSchema, is_named, schema_fault}
 use Rattle.schema_text.specs.declared.fault.SchemaTextFault.{SchemaTextFault}
 use Rattle.schema_text.specs.declared.fault.SchemaTextFault.TheVariants as faults
 use Rattle.schema_text.specs.declared.field.Field.{Field}
-use Rattle.schema_text.specs.Faults.{◌>>=◌}
+use Rattle.row_base.specs.Faults.{◌>>=◌}
 use Rattle.schema_text.specs.Fields.{field_of, fields_of_text}
 
 -- what there is, or the fault of the shape

@@ -2,11 +2,12 @@
 ghost use Rattle.std.specs.Prelude.{◌≡◌, codes, option_map};
 ghost use Rattle.serde_json.specs.Find.{as_array};
 ghost use Rattle.serde_json.specs.View.{view, items_view};
-ghost use Rattle.json_lines.specs.Gives.{Gives};
-ghost use Rattle.json_lines.specs.Kinds.{needed};
+ghost use Rattle.row_base.specs.Readings.{Gives};
+ghost use Rattle.json_lines.specs.Gives.{is_memory};
+ghost use Rattle.json_lines.specs.Kinds as kinds;
 ghost use Rattle.schema_text.specs.Fields as spec;
 
-use json_lines::{ShapeFault, needed_flag, needed_text, present};
+use json_lines::{ShapeFault, needed, present};
 use row_base::{Kind, Text};
 use serde_json::Value;
 use std::alloc::Global;
@@ -36,7 +37,7 @@ fn kind_named(name: &str) -> Option<Kind>
 }
 
 fn type_in(value: &Value) -> Result<Option<Kind>, ShapeFault>
-    ensures { Gives result (spec.type_in (view value.now)) }
+    ensures { Gives is_memory (λ x. x) result (spec.type_in (view value.now)) }
 {
     match value {
         Value::String(name) => Ok(kind_named(name.as_str())),
@@ -47,7 +48,7 @@ fn type_in(value: &Value) -> Result<Option<Kind>, ShapeFault>
 
 #[tactic(auto, unfolding(json_lines::specs::Kinds::needed))]
 fn needed_type(field: &Value) -> Result<Option<Kind>, ShapeFault>
-    ensures { Gives result (needed spec.type_in (codes "type") (view field.now)) }
+    ensures { Gives is_memory (λ x. x) result (kinds.needed spec.type_in (codes "type") (view field.now)) }
 {
     match present(field, "type") {
         Some(value) => type_in(value),
@@ -56,7 +57,7 @@ fn needed_type(field: &Value) -> Result<Option<Kind>, ShapeFault>
 }
 
 fn invariant_in(value: &Value) -> Result<bool, ShapeFault>
-    ensures { Gives result (spec.invariant_in (view value.now)) }
+    ensures { Gives is_memory (λ x. x) result (spec.invariant_in (view value.now)) }
 {
     if value.is_object() {
         Ok(present(value, "delta.invariants").is_some())
@@ -67,7 +68,7 @@ fn invariant_in(value: &Value) -> Result<bool, ShapeFault>
 
 #[tactic(auto, unfolding(json_lines::specs::Kinds::needed))]
 fn needed_invariant(field: &Value) -> Result<bool, ShapeFault>
-    ensures { Gives result (needed spec.invariant_in (codes "metadata") (view field.now)) }
+    ensures { Gives is_memory (λ x. x) result (kinds.needed spec.invariant_in (codes "metadata") (view field.now)) }
 {
     match present(field, "metadata") {
         Some(value) => invariant_in(value),
@@ -78,11 +79,11 @@ fn needed_invariant(field: &Value) -> Result<bool, ShapeFault>
 /// The field of a struct type that a value is.
 #[tactic(auto, unfolding(crate::specs::Fields::field_of))]
 pub(crate) fn read_field(alloc: Global, value: &Value) -> Result<Field, ShapeFault>
-    ensures { Gives result (spec.field_of (view value.now)) }
+    ensures { Gives is_memory (λ x. x) result (spec.field_of (view value.now)) }
 {
-    let name = needed_text(alloc, value, "name")?;
+    let name = needed(alloc, value, "name")?;
     let kind = needed_type(value)?;
-    let nullable = needed_flag(value, "nullable")?;
+    let nullable = needed(alloc, value, "nullable")?;
     let has_invariant = needed_invariant(value)?;
     Ok(Field {
         name,
@@ -104,7 +105,7 @@ fn is_struct(value: &Value) -> bool
 
 #[tactic(auto, unfolding(json_lines::specs::Kinds::needed))]
 fn needed_items(value: &Value) -> Option<&[Value]>
-    ensures { option_map (λ v. items_view v.now) result ≡ needed as_array (codes "fields") (view value.now) }
+    ensures { option_map (λ v. items_view v.now) result ≡ kinds.needed as_array (codes "fields") (view value.now) }
 {
     match present(value, "fields") {
         Some(Value::Array(items)) => Some(items.as_slice()),

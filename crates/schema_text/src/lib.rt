@@ -3,7 +3,6 @@
 
 mod fault;
 mod field;
-mod number;
 mod partition;
 mod partition_written;
 mod schema;

@@ -3,14 +3,16 @@ ghost use Rattle.std.specs.Prelude.{◌≡◌, ◌≢◌, ◌<◌, ◌≤◌, []
 ghost use Rattle.serde_json.specs.View.{view, items_view};
 ghost use Rattle.row_base.specs.Schema.{is_named};
 ghost use Rattle.schema_text.specs.declared.fault.SchemaTextFault.TheVariants as faults;
-ghost use Rattle.schema_text.specs.Faults.{Reads, FaultOf};
+ghost use Rattle.row_base.specs.Faults.{Reads, FaultOf};
+ghost use Rattle.schema_text.specs.Faults.{is_memory};
 ghost use Rattle.schema_text.specs.FirstFault.{IsTextOf, IsFirstFault};
 ghost use Rattle.schema_text.specs.Schema as spec;
 
 use crate::fault::SchemaTextFault;
 use crate::field::{Field, read_field, struct_fields};
 use json_lines::read_object;
-use row_base::{Column, MAX_COLUMNS, NoMemory, Schema, Text};
+use row_base::limits::MAX_COLUMNS;
+use row_base::{Column, NoMemory, Schema, Text};
 use serde_json::Value;
 use std::alloc::Global;
 
@@ -23,7 +25,7 @@ fn has_name(columns: &[Column], name: &Text) -> bool
 
 /// The column of a field whose type is supported, unless it has an invariant.
 fn column_of_kind(field: Field) -> Result<Column, SchemaTextFault>
-    ensures { Reads result (spec.column_of_kind field field.kind) }
+    ensures { Reads is_memory result (spec.column_of_kind field field.kind) }
 {
     let Field {
         name,
@@ -45,7 +47,7 @@ fn column_of_kind(field: Field) -> Result<Column, SchemaTextFault>
 /// The column of a field behind these columns.
 #[tactic(auto, unfolding(crate::specs::Schema::column_of))]
 fn column_of(columns: &[Column], field: Field) -> Result<Column, SchemaTextFault>
-    ensures column { Reads result (spec.column_of columns.now field) }
+    ensures column { Reads is_memory result (spec.column_of columns.now field) }
     ensures few { IfOk result (λ _. length columns.now < 64) }
 {
     if columns.len() < MAX_COLUMNS && !has_name(columns, &field.name) {
@@ -58,7 +60,7 @@ fn column_of(columns: &[Column], field: Field) -> Result<Column, SchemaTextFault
 /// The column of a field's value behind these columns.
 #[tactic(auto, unfolding(crate::specs::Schema::next_column))]
 fn next_column(alloc: Global, columns: &[Column], value: &Value) -> Result<Column, SchemaTextFault>
-    ensures column { Reads result (spec.next_column columns.now (view value.now)) }
+    ensures column { Reads is_memory result (spec.next_column columns.now (view value.now)) }
     ensures few { IfOk result (λ _. length columns.now < 64) }
 {
     let field = read_field(alloc, value)?;
@@ -69,7 +71,7 @@ fn next_column(alloc: Global, columns: &[Column], value: &Value) -> Result<Colum
 fn columns_of(alloc: Global, fields: &[Value]) -> Result<Vec<Column>, SchemaTextFault>
     ensures few { IfOk result (λ v. length v.items ≤ 64) }
     ensures columns { MatchResult result (λ v. spec.columns_from [] (items_view fields.now) ≡ Ok v.items)
-        (λ e. FaultOf e (spec.columns_from [] (items_view fields.now))) }
+        (λ e. FaultOf is_memory e (spec.columns_from [] (items_view fields.now))) }
 {
     let mut columns = Vec::new(alloc);
     for value in fields {
@@ -106,7 +108,7 @@ fn places_of(
 }
 
 fn schema_at(columns: Vec<Column>, places: Vec<u32>) -> Result<Schema, SchemaTextFault>
-    ensures { Reads result (spec.schema_at columns.items places.items) }
+    ensures { Reads is_memory result (spec.schema_at columns.items places.items) }
 {
     match Schema::make(columns, places) {
         Ok(schema) => Ok(schema),
@@ -117,7 +119,7 @@ fn schema_at(columns: Vec<Column>, places: Vec<u32>) -> Result<Schema, SchemaTex
 #[tactic(auto, unfolding(crate::specs::Schema::schema_by))]
 fn schema_by(alloc: Global, names: &[Text], columns: Vec<Column>) -> Result<Schema, SchemaTextFault>
     requires { length columns.items ≤ 64 }
-    ensures { Reads result (spec.schema_by names.now columns.items) }
+    ensures { Reads is_memory result (spec.schema_by names.now columns.items) }
 {
     match places_of(alloc, &columns, names)? {
         Some(places) => schema_at(columns, places),
@@ -127,7 +129,7 @@ fn schema_by(alloc: Global, names: &[Text], columns: Vec<Column>) -> Result<Sche
 
 #[tactic(auto, unfolding(crate::specs::Schema::schema_of, crate::specs::Fields::fields_of_text))]
 fn schema_in(alloc: Global, text: &Text, partition: &[Text]) -> Result<Schema, SchemaTextFault>
-    ensures { Reads result (spec.schema_of text.now partition.now) }
+    ensures { Reads is_memory result (spec.schema_of text.now partition.now) }
 {
     let value = read_object(alloc, text.as_str().as_bytes())?;
     match struct_fields(&value) {
@@ -149,7 +151,7 @@ pub fn read_schema(
     text: &Text,
     partition: &[Text],
 ) -> Result<Schema, SchemaTextFault>
-    ensures schema { Reads result (spec.schema_of text.now partition.now) }
+    ensures schema { Reads is_memory result (spec.schema_of text.now partition.now) }
     ensures read { IfOk result (λ s. IsTextOf text.now partition.now s) }
     ensures first { IfErr result (λ e. e ≢ faults.NoMemory → IsFirstFault text.now partition.now e) }
 {

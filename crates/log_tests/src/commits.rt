@@ -1,6 +1,6 @@
 //! Texts from outside: commits written by hand, foreign and damaged lines.
 
-use crate::{Action, LogFaultKind, is_absolute, read_commit, write_commit};
+use log_actions::{Action, LogFaultKind, is_absolute, read_commit, write_commit};
 use row_base::NoMemory;
 use std::alloc::Global;
 use std::test::Fail;
@@ -233,6 +233,18 @@ fn foreign_lines(rt: HostRuntime) {
         (
             "{\"protocol\":{\"minReaderVersion\":1,\"minWriterVersion\":1}}\n{\"protocol\":{}}",
             Outcome::Shape(2),
+        ),
+        (
+            "{\"sidecar\":{\"path\":\"/a\",\"sizeInBytes\":1}}",
+            Outcome::Unsupported(1),
+        ),
+        (
+            "{\"sidecar\":{\"path\":\"%ff\",\"sizeInBytes\":1}}",
+            Outcome::Shape(1),
+        ),
+        (
+            "{\"sidecar\":{\"path\":\"a%20b\",\"sizeInBytes\":1}}",
+            Outcome::Actions(1),
         ),
         ("{\"commitInfo\":7}", Outcome::Shape(1)),
         ("{\"commitInfo\":{\"timestamp\":-1}}", Outcome::Actions(1)),

@@ -1,5 +1,5 @@
 use Rattle.std.proofs.Common.{◌≡◌, take}
-use Rattle.json_lines.proofs.map.PartitionMap.copy.Given as goal
+use Rattle.log_actions.proofs.partition_map.PartitionMap.copy.Given as goal
 
 -- what was copied is the front of what is to be copied
 abbrev pub invariant-loop-entry : goal.invariant-loop-entry

@@ -1,12 +1,14 @@
-use crate::{
+//! Texts from outside: names, protocols and properties of tables.
+
+use edge_api::{Name, Tag};
+use log_actions::{Entry, Feature, Format, MetaData, Protocol, TextMap};
+use row_base::{Items, NoMemory, Text};
+use std::alloc::Global;
+use std::test::Fail;
+use table_rules::{
     FeatureFault, Level, LogName, Rules, accepts, checkpoint_name, commit_name, data_file_name,
     log_prefix, read_interval, read_log_name, rules_of, statement_id,
 };
-use edge_api::{Name, Tag};
-use log_actions::{Entry, Feature, Format, MetaData, Protocol, TextMap};
-use row_base::{NoMemory, Text, Texts};
-use std::alloc::{AllocError, Global};
-use std::test::Fail;
 
 #[test]
 fn commits_and_identifiers_have_their_texts(rt: HostRuntime) -> Result<(), Fail> {
@@ -51,7 +53,7 @@ fn data_files_have_their_names(rt: HostRuntime) -> Result<(), Fail> {
     Ok(())
 }
 
-fn said(alloc: Global, text: &str) -> Result<LogName, AllocError> {
+fn said(alloc: Global, text: &str) -> Result<LogName, NoMemory> {
     let name = Name::make(alloc, text)?;
     Ok(read_log_name(&name))
 }
@@ -129,11 +131,11 @@ fn intervals_are_read(rt: HostRuntime) -> Result<(), Fail> {
     Ok(())
 }
 
-fn one_feature(alloc: Global, name: &str) -> Result<Option<Texts>, NoMemory> {
+fn one_feature(alloc: Global, name: &str) -> Result<Option<Items<Text>>, NoMemory> {
     let mut names = Vec::new(alloc);
     names.push(Text::make(alloc, "appendOnly")?)?;
     names.push(Text::make(alloc, name)?)?;
-    Ok(Some(Texts::make(names)))
+    Ok(Some(Items::from_vec(names)))
 }
 
 fn is_accepted(reader: u64, writer: u64) -> bool {
@@ -191,7 +193,7 @@ fn metadata(alloc: Global, properties: &[(&str, &str)]) -> Result<MetaData, NoMe
             options: None,
         },
         schema_string: Text::make(alloc, "")?,
-        partition_columns: Texts::make(Vec::new(alloc)),
+        partition_columns: Items::from_vec(Vec::new(alloc)),
         created_time: None,
         configuration: Some(TextMap::make(entries)),
     })
