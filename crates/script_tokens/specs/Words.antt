@@ -18,9 +18,9 @@ abbrev pub is_word_byte : ℕ → Bool
 is_word_byte b = is_letter b || is_digit b
 
 -- a word, a number or a text may end before these bytes: no letter, digit or quote follows
-abbrev pub gap : List ℕ → Bool
-gap [] = true
-gap (b ∷ bs) = not (is_word_byte b || (b == 39))
+abbrev pub is_boundary : List ℕ → Bool
+is_boundary [] = true
+is_boundary (b ∷ bs) = not (is_word_byte b || (b == 39))
 
 abbrev pub begins_digit : List ℕ → Bool
 begins_digit [] = false

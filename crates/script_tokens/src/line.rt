@@ -4,14 +4,14 @@ ghost use Rattle.std.specs.List.{prefix_len};
 ghost use Rattle.script_tokens.specs.Words.{begins_digit, is_word_byte};
 ghost use Rattle.script_tokens.specs.Tokens.{is_sign, SpellsLine};
 ghost use Rattle.script_tokens.specs.Gives.{Gives};
-ghost use Rattle.script_tokens.specs.Reading.{word_at, text_at, mark_at, token_at, lex, line_tokens, put_some, value_after, starts_space};
+ghost use Rattle.script_tokens.specs.Reading.{word_at, text_at, symbol_token_at, token_at, lex, line_tokens, put_some, value_after, starts_space};
 ghost use Rattle.script_tokens.specs.declared.token.Token.{Token as AToken};
 
 use crate::number::{negative, number};
 use crate::symbol::symbol;
 use crate::text::text;
 use crate::token::ends_value;
-use crate::word::{gap, is_letter, word_run};
+use crate::word::{is_boundary, is_letter, word_run};
 use crate::{Bytes, ParseError, Token};
 use std::alloc::Global;
 
@@ -24,7 +24,7 @@ fn word(alloc: Global, bytes: &[u8]) -> Result<(Token, &[u8]), ParseError>
 {
     let len = word_run(bytes);
     let (word, rest) = bytes.split_at(len);
-    if len > WORD_LIMIT || !gap(rest) {
+    if len > WORD_LIMIT || !is_boundary(rest) {
         return Err(ParseError::Form);
     }
     Ok((Token::Word(Bytes::from_slice(alloc, word)?), rest))
@@ -36,14 +36,15 @@ fn quoted(alloc: Global, bytes: &[u8]) -> Result<(Token, &[u8]), ParseError>
     ensures { Gives (λ x. (x.0, x.1.now)) result (text_at bytes.now) }
 {
     let (text, rest) = text(alloc, bytes)?;
-    if !gap(rest) {
+    if !is_boundary(rest) {
         return Err(ParseError::Form);
     }
     Ok((Token::Text(text), rest))
 }
 
-fn mark(bytes: &[u8]) -> Result<(Token, &[u8]), ParseError>
-    ensures { Gives (λ x. (x.0, x.1.now)) result (mark_at bytes.now) }
+/// The symbol at the front as a token.
+fn symbol_token(bytes: &[u8]) -> Result<(Token, &[u8]), ParseError>
+    ensures { Gives (λ x. (x.0, x.1.now)) result (symbol_token_at bytes.now) }
 {
     match symbol(bytes) {
         Some((symbol, rest)) => Ok((Token::Symbol(symbol), rest)),
@@ -77,7 +78,7 @@ fn token(alloc: Global, value: bool, bytes: &[u8]) -> Result<(Token, &[u8]), Par
             } else if *first == b'-' && is_sign(value, rest) {
                 negative(bytes)
             } else {
-                mark(bytes)
+                symbol_token(bytes)
             }
         }
     }

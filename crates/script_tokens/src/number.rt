@@ -6,7 +6,7 @@ ghost use Rattle.script_tokens.specs.Words.{is_digit};
 ghost use Rattle.script_tokens.specs.Gives.{Gives};
 ghost use Rattle.script_tokens.specs.Reading.{unsigned_value, negative_value, number_at, negative_at};
 
-use crate::word::gap;
+use crate::word::is_boundary;
 use crate::{ParseError, Token};
 
 fn digit_run(bytes: &[u8]) -> usize
@@ -37,7 +37,7 @@ pub fn number(bytes: &[u8]) -> Result<(Token, &[u8]), ParseError>
     ensures { Gives (λ x. (x.0, x.1.now)) result (number_at bytes.now) }
 {
     let (digits, rest) = bytes.split_at(digit_run(bytes));
-    if !gap(rest) {
+    if !is_boundary(rest) {
         return Err(ParseError::Form);
     }
     match value_of(digits) {
@@ -62,7 +62,7 @@ pub fn negative(bytes: &[u8]) -> Result<(Token, &[u8]), ParseError>
     ensures { Gives (λ x. (x.0, x.1.now)) result (negative_at (drop 1 bytes.now)) }
 {
     let (text, rest) = bytes.split_at(1 + digit_run(behind_sign(bytes)));
-    if !gap(rest) {
+    if !is_boundary(rest) {
         return Err(ParseError::Form);
     }
     match value_of(text) {

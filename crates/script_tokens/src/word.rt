@@ -2,7 +2,7 @@
 ghost use Rattle.std.specs.Prelude.{◌≡◌, ◌≤◌, length};
 ghost use Rattle.std.specs.List.{list_any, prefix_len};
 ghost use Rattle.std.specs.Str.{bytes_eq};
-ghost use Rattle.script_tokens.specs.Words.{is_letter, is_word_byte, gap, is_constant, is_reserved};
+ghost use Rattle.script_tokens.specs.Words.{is_letter, is_word_byte, is_boundary, is_constant, is_reserved};
 
 /// Whether a name may begin with the byte: an ASCII letter or `_`.
 pub fn is_letter(b: u8) -> bool
@@ -27,8 +27,8 @@ pub fn word_run(bytes: &[u8]) -> usize
 }
 
 /// Whether a word, a number or a text may end before these bytes.
-pub fn gap(bytes: &[u8]) -> bool
-    ensures { result ≡ gap bytes.now }
+pub fn is_boundary(bytes: &[u8]) -> bool
+    ensures { result ≡ is_boundary bytes.now }
 {
     match bytes {
         [] => true,
