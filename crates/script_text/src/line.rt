@@ -46,7 +46,7 @@ pub enum Line {
 }
 
 /// `NAME long not null`
-fn column(alloc: Global, tokens: &[Token]) -> Result<(Text, &[Token]), ParseError>
+fn column<'a, 'b>(alloc: Global, tokens: &'a [Token<'b>]) -> Result<(Text, &'a [Token<'b>]), ParseError>
     ensures { Gives (λ x. (x.0, x.1.now)) result (read column tokens.now) }
 {
     let (name, rest) = take_name(alloc, tokens)?;
@@ -56,7 +56,10 @@ fn column(alloc: Global, tokens: &[Token]) -> Result<(Text, &[Token]), ParseErro
     Ok((name, rest))
 }
 
-fn columns(alloc: Global, tokens: &[Token]) -> Result<(Vec<Text>, &[Token]), ParseError>
+fn columns<'a, 'b>(
+    alloc: Global,
+    tokens: &'a [Token<'b>],
+) -> Result<(Vec<Text>, &'a [Token<'b>]), ParseError>
     ensures { Gives (λ x. (x.0.items, x.1.now)) result (read (listed column) tokens.now) }
 {
     let (first, mut rest) = column(alloc, tokens)?;
@@ -70,7 +73,10 @@ fn columns(alloc: Global, tokens: &[Token]) -> Result<(Vec<Text>, &[Token]), Par
     Ok((all, rest))
 }
 
-fn literals(alloc: Global, tokens: &[Token]) -> Result<(Vec<Datum>, &[Token]), ParseError>
+fn literals<'a, 'b>(
+    alloc: Global,
+    tokens: &'a [Token<'b>],
+) -> Result<(Vec<Datum>, &'a [Token<'b>]), ParseError>
     ensures { Gives (λ x. (x.0.items, x.1.now)) result (read (listed a_literal) tokens.now) }
 {
     let (first, mut rest) = take_literal(tokens)?;
@@ -85,7 +91,10 @@ fn literals(alloc: Global, tokens: &[Token]) -> Result<(Vec<Datum>, &[Token]), P
 }
 
 /// `(LITERAL, ..)`
-fn row_at_front(alloc: Global, tokens: &[Token]) -> Result<(Row, &[Token]), ParseError>
+fn row_at_front<'a, 'b>(
+    alloc: Global,
+    tokens: &'a [Token<'b>],
+) -> Result<(Row, &'a [Token<'b>]), ParseError>
     ensures { Gives (λ x. (x.0, x.1.now)) result (read row tokens.now) }
 {
     let rest = take_open(tokens)?;
@@ -94,7 +103,10 @@ fn row_at_front(alloc: Global, tokens: &[Token]) -> Result<(Row, &[Token]), Pars
     Ok((Row::make(data), rest))
 }
 
-fn rows(alloc: Global, tokens: &[Token]) -> Result<(Vec<Row>, &[Token]), ParseError>
+fn rows<'a, 'b>(
+    alloc: Global,
+    tokens: &'a [Token<'b>],
+) -> Result<(Vec<Row>, &'a [Token<'b>]), ParseError>
     ensures { Gives (λ x. (x.0.items, x.1.now)) result (read (listed row) tokens.now) }
 {
     let (first, mut rest) = row_at_front(alloc, tokens)?;
@@ -109,7 +121,10 @@ fn rows(alloc: Global, tokens: &[Token]) -> Result<(Vec<Row>, &[Token]), ParseEr
 }
 
 /// What stands at the front of the tokens, by its first word.
-fn read_line(alloc: Global, tokens: &[Token]) -> Result<(Line, &[Token]), ParseError>
+fn read_line<'a, 'b>(
+    alloc: Global,
+    tokens: &'a [Token<'b>],
+) -> Result<(Line, &'a [Token<'b>]), ParseError>
     ensures { Gives (λ x. (line_value x.0, x.1.now)) result (read line_shape tokens.now) }
 {
     if let Some(rest) = find_word(tokens, b"attempts") {
@@ -138,7 +153,7 @@ fn read_line(alloc: Global, tokens: &[Token]) -> Result<(Line, &[Token]), ParseE
 }
 
 #[tactic(auto, unfolding(script_grammar::specs::Shape::whole))]
-fn whole_line(alloc: Global, tokens: &[Token]) -> Result<Line, ParseError>
+fn whole_line(alloc: Global, tokens: &[Token<'_>]) -> Result<Line, ParseError>
     ensures { Gives line_value result (whole line_shape tokens.now) }
 {
     let (line, rest) = read_line(alloc, tokens)?;

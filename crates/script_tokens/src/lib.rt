@@ -14,5 +14,5 @@ mod word;
 pub use fault::ParseError;
 pub use line::{tokens_are_spelled, tokens_of};
 pub use text::inside_is_spelled;
-pub use token::{Bytes, Symbol, Token};
+pub use token::{Bytes, Symbol, Token, Word};
 pub use word::{is_constant, is_letter, is_reserved, is_word_byte, word_run};

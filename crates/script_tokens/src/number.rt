@@ -32,7 +32,7 @@ fn value_of(text: &[u8]) -> Option<i64>
 
 /// The number whose digits stand at the front.
 #[tactic(auto, unfolding(crate::specs::Reading::number_at))]
-pub fn number(bytes: &[u8]) -> Result<(Token, &[u8]), ParseError>
+pub fn number(bytes: &[u8]) -> Result<(Token<'_>, &[u8]), ParseError>
     requires { 0 < prefix_len is_digit bytes.now }
     ensures { Gives (λ x. (x.0, x.1.now)) result (number_at bytes.now) }
 {
@@ -56,7 +56,7 @@ fn behind_sign(bytes: &[u8]) -> &[u8]
 
 /// The number whose sign and digits stand at the front.
 #[tactic(auto, unfolding(crate::specs::Reading::negative_at))]
-pub fn negative(bytes: &[u8]) -> Result<(Token, &[u8]), ParseError>
+pub fn negative(bytes: &[u8]) -> Result<(Token<'_>, &[u8]), ParseError>
     requires sign { (ds : List ℕ) × (bytes.now ≡ 45 ∷ ds) }
     requires some { 0 < prefix_len is_digit (drop 1 bytes.now) }
     ensures { Gives (λ x. (x.0, x.1.now)) result (negative_at (drop 1 bytes.now)) }
