@@ -23,7 +23,10 @@ pub fn find_word<'a, 'b>(tokens: &'a [Token<'b>], wanted: &[u8]) -> Option<&'a [
 }
 
 /// The tokens behind the wanted word. The error `Form` comes where it doesn't stand at the front.
-pub fn take_word<'a, 'b>(tokens: &'a [Token<'b>], wanted: &[u8]) -> Result<&'a [Token<'b>], ParseError>
+pub fn take_word<'a, 'b>(
+    tokens: &'a [Token<'b>],
+    wanted: &[u8],
+) -> Result<&'a [Token<'b>], ParseError>
     ensures { Gives (λ r. r.now) result (word_at wanted.now tokens.now) }
 {
     match find_word(tokens, wanted) {

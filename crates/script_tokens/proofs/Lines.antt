@@ -12,7 +12,8 @@ use Rattle.script_tokens.specs.declared.token.Token.TheVariants.{Word, Number, T
 use Rattle.script_tokens.specs.declared.fault.ParseError.{ParseError}
 use Rattle.script_tokens.specs.declared.fault.ParseError.TheVariants as errors
 use Rattle.script_tokens.specs.Words.{is_letter, is_word_byte, is_digit, is_boundary, begins_digit, ends_value}
-use Rattle.script_tokens.specs.Gives.{◌>>=◌, Fails}
+use Rattle.script_tokens.specs.Gives.{Fails}
+use Rattle.row_base.specs.Readings.{◌>>=◌}
 use Rattle.script_tokens.specs.Quoted.{body, plain}
 use Rattle.script_tokens.specs.Tokens.{begins_letter, IsWord, IsDigits, symbol_text, is_sign, is_minus, SpellsToken, word, number, negative, text, symbol, SpellsTokens, nothing, space, token, SpellsLine}
 use Rattle.script_tokens.specs.Reading.{Taken, word_of, word_at, unsigned_value, negative_value, number_of, number_at, negative_at, text_at, symbol_at, symbol_token_at, token_at, put, lex, line_tokens, starts_space}

@@ -11,7 +11,7 @@ use Rattle.std.proofs.lemmas.Bool.Decides.{nat_tests}
 use Rattle.std.proofs.lemmas.List.Folds.{length-prefix_len}
 use Rattle.script_tokens.specs.declared.token.Token.TheVariants.{Number}
 use Rattle.script_tokens.specs.Words.{is_digit, is_boundary}
-use Rattle.script_tokens.specs.Gives.{◌>>=◌}
+use Rattle.row_base.specs.Readings.{◌>>=◌}
 use Rattle.script_tokens.specs.Reading.{Taken, unsigned_value, negative_value, number_at, negative_at}
 use Rattle.script_tokens.proofs.Runs.{run_is_run, run_of_digits, one_add}
 

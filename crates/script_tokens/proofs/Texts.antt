@@ -5,7 +5,7 @@ use Rattle.std.specs.Prelude.{◌==◌}
 use Rattle.std.proofs.lemmas.List.{append-nil}
 use Rattle.std.proofs.lemmas.Bool.{eqb-true}
 use Rattle.script_tokens.specs.Words.{is_boundary}
-use Rattle.script_tokens.specs.Gives.{◌>>=◌}
+use Rattle.row_base.specs.Readings.{◌>>=◌}
 use Rattle.script_tokens.specs.Quoted.{body, plain, quoted, slashed, hex, low, Mode, put, is_plain, digit_of, high_of, SpellsInside, nothing, itself, two_quotes, two_backslashes, code, begins_quote}
 use Rattle.script_tokens.specs.Text.{InsideOf}
 use Rattle.script_tokens.proofs.Runs.{some_is, bind_some, cond_some, Bool_tells, one_add, or_false, not_true}

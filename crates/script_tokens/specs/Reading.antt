@@ -7,7 +7,7 @@ use Rattle.script_tokens.specs.declared.token.Token.TheVariants.{Word, Number, T
 use Rattle.script_tokens.specs.declared.token.Symbol.{Symbol as SymbolValue}
 use Rattle.script_tokens.specs.declared.token.Symbol.TheVariants.{Open, Close, Comma, Equal, NotEqual, Less, AtMost, Greater, AtLeast, Plus, Minus, Star, Dot}
 use Rattle.script_tokens.specs.Words.{is_letter, is_word_byte, is_digit, is_boundary, ends_value}
-use Rattle.script_tokens.specs.Gives.{◌>>=◌}
+use Rattle.row_base.specs.Readings.{◌>>=◌}
 use Rattle.script_tokens.specs.Quoted.{body, plain}
 use Rattle.script_tokens.specs.Tokens.{is_sign}
 

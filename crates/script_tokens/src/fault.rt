@@ -1,7 +1,7 @@
 //! Why bytes could not be read.
 ghost use Rattle.std.specs.Prelude.{◌≡◌};
-ghost use Rattle.script_tokens.specs.declared.fault.ParseError.TheVariants.{NoMemory};
 
+use row_base::NoMemory;
 use std::alloc::{AllocError, AllocFailed};
 
 /// Why bytes or tokens could not be read.
@@ -14,7 +14,7 @@ pub enum ParseError {
 }
 
 impl From<AllocError> for ParseError {
-    ghost from_gives = { λ _ e. e ≡ NoMemory };
+    ghost from_gives = { λ _ e. e ≡ ParseError.NoMemory };
 
     fn from(_refused: AllocError) -> ParseError {
         ParseError::NoMemory
@@ -22,9 +22,17 @@ impl From<AllocError> for ParseError {
 }
 
 impl<T: Drop> From<AllocFailed<T>> for ParseError {
-    ghost from_gives = { λ _ e. e ≡ NoMemory };
+    ghost from_gives = { λ _ e. e ≡ ParseError.NoMemory };
 
     fn from(_refused: AllocFailed<T>) -> ParseError {
+        ParseError::NoMemory
+    }
+}
+
+impl From<NoMemory> for ParseError {
+    ghost from_gives = { λ _ e. e ≡ ParseError.NoMemory };
+
+    fn from(_refused: NoMemory) -> ParseError {
         ParseError::NoMemory
     }
 }

@@ -84,7 +84,8 @@ fn token(alloc: Global, value: bool, bytes: &[u8]) -> Result<(Token<'_>, &[u8]),
     }
 }
 
-fn starts_space(bytes: &[u8]) -> bool
+/// Whether a space stands at the front.
+pub fn starts_space(bytes: &[u8]) -> bool
     ensures { result ≡ starts_space bytes.now }
 {
     match bytes {

@@ -1,0 +1,117 @@
+//! Printed replies by hand.
+use edge_api::{CallKind, Called, Name};
+use op_types::{
+    CheckpointOutcome, Feature, LogFaultKind, ObjectFault, Refusal, Reply, SessionReplies,
+};
+use report::print_replies;
+use row_base::{Datum, NoMemory, Rows, Text};
+use std::alloc::Global;
+use std::test::Fail;
+
+/// The text of one session's replies, under the name `a`.
+fn printed(alloc: Global, replies: Vec<Reply>) -> Result<Vec<u8>, NoMemory> {
+    let mut made = Vec::new(alloc);
+    made.push(Reply::Created)?;
+    let mut all = Vec::new(alloc);
+    all.push(SessionReplies::make(made))?;
+    all.push(SessionReplies::make(replies))?;
+    let mut names = Vec::new(alloc);
+    names.push(Text::make(alloc, "a")?)?;
+    print_replies(alloc, names.as_slice(), all.as_slice())
+}
+
+/// The reply with these two rows.
+fn rows_of(alloc: Global, first: &[Datum], second: &[Datum]) -> Result<Reply, NoMemory> {
+    let mut rows = Rows::new(alloc);
+    rows.push_copy(first)?;
+    rows.push_copy(second)?;
+    Ok(Reply::Rows {
+        version: 1,
+        rows,
+        files_read: 1,
+        files_live: 1,
+    })
+}
+
+#[test]
+fn a_commit_and_rows_are_printed(rt: HostRuntime) -> Result<(), Fail> {
+    let alloc = rt.alloc();
+    let mut replies = Vec::new(alloc);
+    replies.push(Reply::Committed {
+        version: 1,
+        read: 0,
+        attempts: 1,
+        checkpoint: CheckpointOutcome::NotDue,
+    })?;
+    let first = [Datum::Long(1), Datum::Text(Text::make(alloc, "x")?)];
+    let second = [Datum::Long(2), Datum::Null];
+    replies.push(rows_of(alloc, &first, &second)?)?;
+    let text = printed(alloc, replies)?;
+    let wanted =
+        b"table 1 created 0\na 1 committed 1 read 0 attempts 1\na 2 rows 2 version 1 files 1 of 1\n(1, 'x')\n(2, null)\n";
+    assert!(rt; text.as_slice() == wanted.as_slice());
+    Ok(())
+}
+
+#[test]
+fn data_are_printed_as_literals(rt: HostRuntime) -> Result<(), Fail> {
+    let alloc = rt.alloc();
+    let first = [
+        Datum::Text(Text::make(alloc, "it's \\ \n\u{7f}")?),
+        Datum::Date(19782),
+    ];
+    let second = [Datum::Boolean(false), Datum::Integer(-2147483648)];
+    let mut replies = Vec::new(alloc);
+    replies.push(rows_of(alloc, &first, &second)?)?;
+    let text = printed(alloc, replies)?;
+    let wanted =
+        b"table 1 created 0\na 1 rows 2 version 1 files 1 of 1\n('it''s \\\\ \\x0a\\x7f', date '2024-02-29')\n(false, -2147483648)\n";
+    assert!(rt; text.as_slice() == wanted.as_slice());
+    Ok(())
+}
+
+#[test]
+fn refusals_of_numbers_are_printed(rt: HostRuntime) -> Result<(), Fail> {
+    let alloc = rt.alloc();
+    let mut replies = Vec::new(alloc);
+    replies.push(Reply::Refused(Refusal::NoTable))?;
+    replies.push(Reply::Refused(Refusal::Outlasted {
+        start: 1_700_000_000_000,
+        now: 1_700_000_005_001,
+    }))?;
+    replies.push(Reply::Refused(Refusal::TooManyAttempts { lost: 1 }))?;
+    replies.push(Reply::Refused(Refusal::Unsupported {
+        feature: Feature::Versions,
+    }))?;
+    replies.push(Reply::Killed)?;
+    let text = printed(alloc, replies)?;
+    let wanted =
+        b"table 1 created 0\na 1 refused 1 no table\na 2 refused 9 outlasted 1700000000000 1700000005001\na 3 refused 8 attempts 1\na 4 refused 13 unsupported versions\na 5 killed\n";
+    assert!(rt; text.as_slice() == wanted.as_slice());
+    Ok(())
+}
+
+#[test]
+fn refusals_with_names_are_printed(rt: HostRuntime) -> Result<(), Fail> {
+    let alloc = rt.alloc();
+    let name = Name::make(alloc, "_delta_log/00000000000000000001.json")?;
+    let mut replies = Vec::new(alloc);
+    replies.push(Reply::Refused(Refusal::BadObject {
+        name: name.copy()?,
+        fault: ObjectFault::Line {
+            line: 2,
+            kind: LogFaultKind::Shape,
+        },
+    }))?;
+    replies.push(Reply::Refused(Refusal::Fault {
+        call: Called {
+            kind: CallKind::PutNew,
+            name,
+        },
+    }))?;
+    let text = printed(alloc, replies)?;
+    let wanted =
+        b"table 1 created 0\na 1 refused 12 bad object _delta_log/00000000000000000001.json line 2 shape\na 2 refused 14 fault put new _delta_log/00000000000000000001.json\n";
+    assert!(rt; text.as_slice() == wanted.as_slice());
+    Ok(())
+}
