@@ -1,16 +1,13 @@
 -- Whose the entries of a journal are.
-use Rattle.std.specs.Prelude.{◌≡◌, ◌==◌, ◌&&◌, ℕ, Bool, if◌then◌else◌, List, [], ◌∷◌}
+use Rattle.std.specs.Prelude.{◌≡◌, ◌==◌, ℕ, if◌then◌else◌, List, [], ◌∷◌}
 use Rattle.edge_api.specs.declared.call.Tag.{Tag}
 use Rattle.edge_api.specs.declared.call.JournalEntry.{JournalEntry}
+pub use Rattle.edge_api.specs.Journal.{same_tag}
 
 -- the entries of an actor, by its number
 abbrev pub of_actor : ℕ → List JournalEntry → List JournalEntry
 of_actor number [] = []
 of_actor number (e ∷ es) = if e.tag.actor == number then e ∷ of_actor number es else of_actor number es
-
--- the two tags name one statement of one actor
-abbrev pub same_tag : Tag → Tag → Bool
-same_tag a b = (a.actor == b.actor) && (a.statement == b.statement)
 
 -- the entries of a statement, by its tag
 abbrev pub own : Tag → List JournalEntry → List JournalEntry

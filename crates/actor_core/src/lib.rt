@@ -3,8 +3,6 @@
 
 mod piece;
 mod schedule;
-#[cfg(test)]
-mod tests;
 
 pub use piece::{Till, run_piece, step_actor};
 pub use schedule::{Item, ItemForm, run_schedule};

@@ -1,4 +1,4 @@
-// How far an actor goes at once.
+//! How far an actor goes at once.
 ghost use Rattle.std.specs.Prelude.{◌≡◌, ◌<◌, ℕ};
 ghost use Rattle.std.specs.Bool.{OnTrue, OnFalse};
 ghost use Rattle.edge_api.specs.Actor.{Moves};

@@ -1,4 +1,4 @@
-// The calls of actors in the order of a schedule.
+//! The calls of actors in the order of a schedule.
 ghost use Rattle.std.specs.Prelude.{◌≡◌, ◌<◌, ◌≤◌, ℕ, length, All};
 ghost use Rattle.edge_api.specs.Actor.{Moves};
 ghost use Rattle.actor_core.specs.Schedule.{till_of, slots_of, to_the_end, FollowsSlots, FollowsSchedule, TakesTurns, AreApart, EachOwnPart};

@@ -1,6 +1,6 @@
 -- The steps from one stage to the next.
 use Rattle.std.specs.Prelude.{ℕ, suc, ◌+◌, List, Result, Ok, Err}
-use Rattle.std.specs.declared.alloc.AllocError.{AllocError}
+use Rattle.row_base.specs.declared.memory.NoMemory.{NoMemory}
 use Rattle.call_phases.specs.Phases.{Entries}
 use Rattle.call_phases.specs.Ending.{Ending}
 use Rattle.committer.specs.Attempts.{InTime, Judged, AtCommitPut, Lost, Won, IsOpenEnd, HasFailed, HasLanded, AttemptsEnd}
@@ -20,7 +20,7 @@ abbrev pub ahead_of : {C : Type 0} → Stage C → Ahead C
 ahead_of s = record { stage = s; call = call_at s }
 
 -- what was made, or the end for want of memory
-abbrev pub or_no_memory : {C : Type 0} → Result (Ahead C) AllocError → Ahead C
+abbrev pub or_no_memory : {C : Type 0} → Result (Ahead C) NoMemory → Ahead C
 or_no_memory (Ok ahead) = ahead
 or_no_memory (Err e) = ahead_of (stage.Failed fault.NoMemory)
 

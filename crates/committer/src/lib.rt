@@ -11,6 +11,3 @@ mod steps;
 pub use attempts::{Attempted, Attempts};
 pub use fault::{AttemptFault, Bodies, Landed};
 pub use judge::{BodyFault, Judge, Verdict};
-
-#[cfg(test)]
-mod tests;

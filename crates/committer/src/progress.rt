@@ -5,7 +5,8 @@ ghost use Rattle.committer.specs.Names.{called_now};
 
 use crate::AttemptFault;
 use edge_api::{CallKind, Called, Name};
-use std::alloc::{AllocError, Global};
+use row_base::NoMemory;
+use std::alloc::Global;
 use table_rules::commit_name;
 
 /// The statement's start, the table's retention, both in milliseconds, the version of the first attempt, how
@@ -51,7 +52,7 @@ pub struct Commit {
 
 impl Commit {
     /// The commit of this version. The error is want of memory.
-    pub fn make(alloc: Global, version: u64) -> Result<Commit, AllocError>
+    pub fn make(alloc: Global, version: u64) -> Result<Commit, NoMemory>
         ensures { IfOk result (λ commit. commit.version ≡ version) }
     {
         let name = commit_name(alloc, version)?;
@@ -77,7 +78,7 @@ pub struct Reading {
 
 impl Reading {
     /// A reading of the clock. The error is want of memory.
-    pub fn make(alloc: Global) -> Result<Reading, AllocError> {
+    pub fn make(alloc: Global) -> Result<Reading, NoMemory> {
         let name = Name::make(alloc, "")?;
         let kind = CallKind::Now;
         let called = Called { kind, name };

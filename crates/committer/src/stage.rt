@@ -6,7 +6,8 @@ ghost use Rattle.committer.specs.Steps.{ahead_of, or_no_memory, result_of};
 use crate::progress::{Commit, Reading};
 use crate::{AttemptFault, Bodies, Landed};
 use edge_api::{Body, Call};
-use std::alloc::{AllocError, Global};
+use row_base::NoMemory;
+use std::alloc::Global;
 
 /// A commit that is put.
 #[derive(Drop)]
@@ -23,7 +24,7 @@ impl Put {
         version: u64,
         text: Body,
         now: u64,
-    ) -> Result<(Put, Call), AllocError>
+    ) -> Result<(Put, Call), NoMemory>
         ensures version { IfOk result (λ made. made.0.commit.version ≡ version) }
         ensures text { IfOk result (λ made. made.0.text ≡ text) }
         ensures now { IfOk result (λ made. made.0.now ≡ now) }
@@ -81,7 +82,7 @@ impl<C: Drop> Ahead<C> {
     }
 
     /// The commit is read back next. The error is want of memory.
-    pub fn read_back(put: Put) -> Result<Ahead<C>, AllocError>
+    pub fn read_back(put: Put) -> Result<Ahead<C>, NoMemory>
         ensures { IfOk result (λ a. a ≡ ahead_of (Stage.ReadBack put)) }
     {
         let call = Some(Call::Get(put.commit.name.copy()?));
@@ -90,7 +91,7 @@ impl<C: Drop> Ahead<C> {
     }
 
     /// The commit that won is got next. The error is want of memory.
-    pub fn winner(commit: Commit) -> Result<Ahead<C>, AllocError>
+    pub fn winner(commit: Commit) -> Result<Ahead<C>, NoMemory>
         ensures { IfOk result (λ a. a ≡ ahead_of (Stage.Winner commit)) }
     {
         let call = Some(Call::Get(commit.name.copy()?));
@@ -99,7 +100,7 @@ impl<C: Drop> Ahead<C> {
     }
 
     /// What was made, or the end for want of memory.
-    pub fn or_no_memory(made: Result<Ahead<C>, AllocError>) -> Ahead<C>
+    pub fn or_no_memory(made: Result<Ahead<C>, NoMemory>) -> Ahead<C>
         ensures { result ≡ or_no_memory made }
     {
         match made {

@@ -1,4 +1,4 @@
--- The journal of a store in memory, replay_objects.
+-- The journal of a store in memory, replayed.
 use Rattle.std.specs.Prelude.{ℕ, List, [], ◌∷◌, false}
 use Rattle.edge_api.specs.declared.call.JournalEntry.{JournalEntry}
 use Rattle.edge_api.specs.Journal.{Entries, Objects, Moment, objects_after}

@@ -9,13 +9,11 @@ use crate::{
     Answer, Back, Body, Call, How, JournalEntry, Listed, Listing, Name, Object, Tag, World,
 };
 use row_base::NoMemory;
+use row_base::limits::LAST_TIME;
 use std::alloc::Global;
 use std::collections::BTreeMap;
 use std::marker::Model;
 use std::ops::Bound;
-
-/// The last reading of a clock, in milliseconds.
-const LAST_TIME: u64 = 1 << 61;
 
 fn object_of<'a>(objects: &'a BTreeMap<Name, Object>, name: &Name) -> Option<&'a Object>
     ensures { option_copied result ≡ object_at objects.now.entries name.now }

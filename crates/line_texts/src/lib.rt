@@ -10,9 +10,8 @@ ghost use Rattle.std.specs.Prelude.{◌≡◌};
 ghost use Rattle.line_texts.specs.Laws.{ColumnsReadBack, PathReadsBack, RowsReadBack, ColumnsAreWritten, PathIsWritten, RowsAreWritten};
 
 pub use read::{read_add, read_columns, read_rows};
-use row_base::{NoMemory, Text};
+use row_base::NoMemory;
 use std::alloc::{AllocError, AllocFailed};
-use std::marker::Model;
 pub use write::{are_long_rows, write_add, write_columns, write_rows};
 
 /// Why a text has no reading.
@@ -56,36 +55,6 @@ impl<T: Drop> From<AllocFailed<T>> for TextFault {
     }
 }
 
-/// Names, in order.
-#[derive(Drop)]
-pub struct Names {
-    items: Vec<Text>,
-}
-
-impl Model for Names {
-    ghost use Rattle.std.specs.Prelude.{List, ℕ};
-
-    ghost Value = { List (List ℕ) };
-
-    ghost view = { λ n. n.items.items };
-}
-
-impl Names {
-    /// The list of these names. It takes no memory.
-    pub fn make(items: Vec<Text>) -> Names
-        ensures { result ≡ items.items }
-    {
-        Names { items }
-    }
-
-    /// The names.
-    pub fn as_slice(&self) -> &[Text]
-        ensures { result.now ≡ self.now }
-    {
-        &self.items
-    }
-}
-
 /// Each text that is written of words, of a path or of rows of numbers reads back, and a text that reads is the one
 /// that is written of what it reads as.
 pub fn texts_read_back()
@@ -96,6 +65,3 @@ pub fn texts_read_back()
     ensures path_written { PathIsWritten }
     ensures rows_written { RowsAreWritten }
 {}
-
-#[cfg(test)]
-mod tests;

@@ -4,11 +4,11 @@ ghost use Rattle.line_texts.specs.Pieces.{pieces, each};
 ghost use Rattle.line_texts.specs.Texts as spec;
 ghost use Rattle.line_texts.specs.Answers.{Gives};
 
+use crate::TextFault;
 use crate::numbers::long_of;
 use crate::pieces::cut;
-use crate::{Names, TextFault};
 use edge_api::Name;
-use row_base::{Datum, NoMemory, Row, Rows, Text};
+use row_base::{Datum, Items, NoMemory, Row, Rows, Text};
 use std::alloc::Global;
 
 fn datum_of(text: &[u8]) -> Option<Datum>
@@ -45,19 +45,19 @@ fn row_of(alloc: Global, line: &[u8]) -> Result<Option<Row>, NoMemory>
 pub fn read_rows(alloc: Global, text: &[u8]) -> Result<Rows, TextFault>
     ensures { Gives (λ r. r) (spec.rows_of_text text.now) (spec.bad_line_of_rows text.now) result }
 {
-    let mut rows = Vec::new(alloc);
+    let mut rows = Rows::new(alloc);
     let mut rest = text;
     let mut line = 1u32;
     'lines: while let Some((front, back)) = cut(b'\n', rest) {
         match row_of(alloc, front)? {
-            Some(row) => rows.push(row)?,
+            Some(row) => rows.push_from(&mut row.into_vec())?,
             None => return Err(TextFault::Line(line)),
         }
         rest = back;
         line = line.saturating_add(1);
     }
     if rest.is_empty() {
-        Ok(Rows::make(rows))
+        Ok(rows)
     } else {
         Err(TextFault::Line(line))
     }
@@ -81,7 +81,7 @@ fn text_of(alloc: Global, piece: &[u8]) -> Result<Option<Text>, NoMemory>
     }
 }
 
-fn texts_of(alloc: Global, line: &[u8]) -> Result<Option<Names>, NoMemory>
+fn texts_of(alloc: Global, line: &[u8]) -> Result<Option<Items<Text>>, NoMemory>
     ensures { IfOk result (λ names. names ≡ each spec.text_of_utf8 (pieces 32 line.now)) }
 {
     let mut names = Vec::new(alloc);
@@ -96,13 +96,13 @@ fn texts_of(alloc: Global, line: &[u8]) -> Result<Option<Names>, NoMemory>
     match text_of(alloc, rest)? {
         Some(name) => {
             names.push(name)?;
-            Ok(Some(Names::make(names)))
+            Ok(Some(Items::from_vec(names)))
         }
         None => Ok(None),
     }
 }
 
-fn names_of(alloc: Global, line: &[u8]) -> Result<Option<Names>, NoMemory>
+fn names_of(alloc: Global, line: &[u8]) -> Result<Option<Items<Text>>, NoMemory>
     ensures { IfOk result (λ names. names ≡ spec.names_of_line line.now) }
 {
     match cut(b' ', line) {
@@ -115,7 +115,7 @@ fn names_of(alloc: Global, line: &[u8]) -> Result<Option<Names>, NoMemory>
         }
         None => {
             if line == b"columns".as_slice() {
-                Ok(Some(Names::make(Vec::new(alloc))))
+                Ok(Some(Items::from_vec(Vec::new(alloc))))
             } else {
                 Ok(None)
             }
@@ -124,7 +124,7 @@ fn names_of(alloc: Global, line: &[u8]) -> Result<Option<Names>, NoMemory>
 }
 
 /// The names of the columns that a commit's text has, or the line that is bad.
-pub fn read_columns(alloc: Global, text: &[u8]) -> Result<Names, TextFault>
+pub fn read_columns(alloc: Global, text: &[u8]) -> Result<Items<Text>, TextFault>
     ensures { Gives (λ n. n) (spec.columns_of_text text.now) (spec.bad_line_of_columns text.now) result }
 {
     match cut(b'\n', text) {

@@ -4,7 +4,7 @@ ghost use Rattle.std.specs.List.{list_all, flat_map};
 ghost use Rattle.line_texts.specs.Texts as spec;
 
 use edge_api::Name;
-use row_base::{Datum, NoMemory, Row, Text};
+use row_base::{Datum, NoMemory, Rows, Text};
 use std::alloc::Global;
 
 fn push_names(text: &mut Vec<u8>, names: &[Text]) -> Result<(), NoMemory>
@@ -76,12 +76,12 @@ fn push_row(alloc: Global, text: &mut Vec<u8>, row: &[Datum]) -> Result<(), NoMe
 }
 
 /// The text of a data file with these rows. Only numbers of 64 bits have a text.
-pub fn write_rows(alloc: Global, rows: &[Row]) -> Result<Vec<u8>, NoMemory>
+pub fn write_rows(alloc: Global, rows: &Rows) -> Result<Vec<u8>, NoMemory>
     ensures { IfOk result (λ text. text.items ≡ spec.text_of_rows rows.now) }
 {
     let mut text = Vec::new(alloc);
-    for row in rows {
-        push_row(alloc, &mut text, row.as_slice())?;
+    for row in rows.iter() {
+        push_row(alloc, &mut text, row)?;
         text.push(b'\n')?;
     }
     Ok(text)
@@ -106,15 +106,14 @@ fn are_longs(row: &[Datum]) -> bool
     row.iter().all(|datum| is_long(datum))
 }
 
-fn is_long_row(row: &Row) -> bool
+fn is_long_row(row: &[Datum]) -> bool
     ensures { result ≡ spec.is_long_row row.now }
 {
-    let data = row.as_slice();
-    data.len() > 0 && are_longs(data)
+    row.len() > 0 && are_longs(row)
 }
 
 /// Whether each row has one number of 64 bits or more, and nothing else.
-pub fn are_long_rows(rows: &[Row]) -> bool
+pub fn are_long_rows(rows: &Rows) -> bool
     ensures { result ≡ list_all spec.is_long_row rows.now }
 {
     rows.iter().all(|row| is_long_row(row))

@@ -1,4 +1,4 @@
-// Which files are live.
+//! Which files are live.
 ghost use Rattle.snapshot_replay.specs.Newest.{NewestDecides};
 
 /// A path is live exactly where the newest action that names it adds it, as the file of that action, and live files

@@ -6,6 +6,3 @@ mod state;
 
 pub use laws::newest_action_decides;
 pub use state::State;
-
-#[cfg(test)]
-mod tests;

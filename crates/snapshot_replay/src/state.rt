@@ -1,11 +1,11 @@
-// The table at a version.
+//! The table at a version.
 ghost use Rattle.std.specs.Prelude.{◌≡◌, ◌≤◌, suc, length, [], OnOk, OnErr, IfOk};
 ghost use Rattle.snapshot_replay.specs.Table.{no_table, applied, table_commit, append_commit, paths_of, placed, without_path};
 ghost use Rattle.snapshot_replay.specs.State.{files_of};
 
 use edge_api::Name;
-use line_texts::Names;
-use std::alloc::{AllocError, Global};
+use row_base::{Items, NoMemory, Text};
+use std::alloc::Global;
 use std::collections::{BTreeSet, VecDeque};
 use std::marker::Model;
 
@@ -17,7 +17,7 @@ fn count_of(files: &BTreeSet<Name>) -> usize
 }
 
 /// Puts a path among those of the live files. The error is want of memory, and then nothing has changed.
-fn put_path(files: &mut BTreeSet<Name>, path: Name) -> Result<(), AllocError>
+fn put_path(files: &mut BTreeSet<Name>, path: Name) -> Result<(), NoMemory>
     ensures ok { OnOk result (files_of files.new.keys ≡ placed (record { path = path; stats = [] }) (without_path (files_of files.old.keys) path)) }
     ensures more { length (files_of files.new.keys) ≤ suc (length (files_of files.old.keys)) }
     ensures err { OnErr result (files.new.keys ≡ files.old.keys) }
@@ -25,18 +25,18 @@ fn put_path(files: &mut BTreeSet<Name>, path: Name) -> Result<(), AllocError>
     let _count = files.len();
     match files.insert(path) {
         Ok(_) => Ok(()),
-        Err(_) => Err(AllocError),
+        Err(_) => Err(NoMemory),
     }
 }
 
 /// The paths in order.
-fn copy_paths(alloc: Global, files: &BTreeSet<Name>) -> Result<VecDeque<Name>, AllocError>
+fn copy_paths(alloc: Global, files: &BTreeSet<Name>) -> Result<VecDeque<Name>, NoMemory>
     ensures { IfOk result (λ paths. paths.items ≡ paths_of (files_of files.now.keys)) }
 {
     let mut paths = VecDeque::new(alloc);
     for path in files.iter() {
         if paths.push_back(path.copy()?).is_err() {
-            return Err(AllocError);
+            return Err(NoMemory);
         }
     }
     Ok(paths)
@@ -46,7 +46,7 @@ fn copy_paths(alloc: Global, files: &BTreeSet<Name>) -> Result<VecDeque<Name>, A
 /// (PROTOCOL.md, "Action Reconciliation").
 #[derive(Drop)]
 pub struct State {
-    columns: Option<Names>,
+    columns: Option<Items<Text>>,
     files: BTreeSet<Name>,
 }
 
@@ -71,14 +71,14 @@ impl State {
     }
 
     /// Applies a commit that makes a table of these columns.
-    pub fn set_columns(&mut self, columns: Names)
+    pub fn set_columns(&mut self, columns: Items<Text>)
         ensures { self.new ≡ applied self.old (table_commit columns) }
     {
         self.columns = Some(columns);
     }
 
     /// Applies a commit that appends a file. The error is want of memory, and then nothing has changed.
-    pub fn add_file(&mut self, path: Name) -> Result<(), AllocError>
+    pub fn add_file(&mut self, path: Name) -> Result<(), NoMemory>
         ensures ok { OnOk result (self.new ≡ applied self.old (append_commit path)) }
         ensures more { length self.new.files ≤ suc (length self.old.files) }
         ensures err { OnErr result (self.new ≡ self.old) }
@@ -87,7 +87,7 @@ impl State {
     }
 
     /// The paths of the live files, in byte order. They share their texts. The error is want of memory.
-    pub fn paths(&self, alloc: Global) -> Result<VecDeque<Name>, AllocError>
+    pub fn paths(&self, alloc: Global) -> Result<VecDeque<Name>, NoMemory>
         ensures { IfOk result (λ paths. paths.items ≡ paths_of self.now.files) }
     {
         copy_paths(alloc, &self.files)

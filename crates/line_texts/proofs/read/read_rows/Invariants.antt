@@ -6,7 +6,7 @@ use Rattle.line_texts.proofs.read.read_rows.Given as goal
 
 abbrev pub invariant-lines : goal.invariant-lines
 invariant-lines l = record {
-  rows : option_map (λ ys. l.rows.items ++ ys) (each_line row_of_line (pieces 10 l.rest)) ≡ each_line row_of_line (pieces 10 l.text);
+  rows : option_map (λ ys. l.rows ++ ys) (each_line row_of_line (pieces 10 l.rest)) ≡ each_line row_of_line (pieces 10 l.text);
   bad : first_bad row_of_line l.line (pieces 10 l.rest) ≡ first_bad row_of_line 1 (pieces 10 l.text);
 }
 

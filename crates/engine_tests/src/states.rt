@@ -1,6 +1,7 @@
-use crate::State;
+//! The table that commits leave.
 use edge_api::Name;
-use line_texts::read_columns;
+use row_base::{Items, Text};
+use snapshot_replay::State;
 use std::test::Fail;
 
 #[test]
@@ -8,7 +9,8 @@ fn files_are_live_once_in_byte_order(rt: HostRuntime) -> Result<(), Fail> {
     let alloc = rt.alloc();
     let mut state = State::new(alloc);
     assert_eq!(rt; state.file_count(), 0);
-    state.set_columns(read_columns(alloc, b"columns id\n").expect(&rt, "it reads"));
+    let column = Text::make(alloc, "id")?;
+    state.set_columns(Items::from_vec(vec![in alloc; column]?));
     for path in ["b", "a", "b", "C"] {
         state.add_file(Name::make(alloc, path)?)?;
     }

@@ -1,10 +1,11 @@
-// Journals of two small actors, worked out by hand.
+//! Journals of two small actors, worked out by hand.
 ghost use Rattle.std.specs.Prelude.{◌≡◌, ◌<◌, ◌↔◌, ◌≤◌, All, IfOk, length};
 ghost use Rattle.edge_api.specs.declared.actor.Stage.TheVariants.{Done};
 
-use crate::{Item, ItemForm, Till, run_piece, run_schedule, step_actor};
+use actor_core::{Item, ItemForm, Till, run_piece, run_schedule, step_actor};
 use edge_api::{Actor, Answer, Back, Body, Call, CallKind, Fed, Name, Stage, Step, Tag, World};
-use std::alloc::{AllocError, Global};
+use row_base::NoMemory;
+use std::alloc::Global;
 use std::test::Fail;
 
 /// A call that an actor is to make, and where it stands before.
@@ -112,7 +113,7 @@ impl World for Recorder {
 
 impl Writer {
     /// An actor of two statements: `Now`, `Now`, the put of a commit, `Now`; and `Now`, the put of a commit.
-    fn new(alloc: Global, number: u16) -> Result<Writer, AllocError>
+    fn new(alloc: Global, number: u16) -> Result<Writer, NoMemory>
         ensures { IfOk result (λ w. (w.stage ≡ Done) ↔ (length w.calls.items ≡ 0)) }
     {
         let body = Body::make(alloc, Vec::new(alloc))?;
@@ -160,7 +161,7 @@ impl Writer {
 
 /// The calls that two actors make along the items, as words: the actor, the statement, and `n` for a
 /// reading of the clock or `p` for the put of a commit.
-fn calls_of(alloc: Global, items: &[Item], refused: u32) -> Result<String, AllocError>
+fn calls_of(alloc: Global, items: &[Item], refused: u32) -> Result<String, NoMemory>
     requires { All (λ i. (0 < i.actor) × (i.actor ≤ 2)) items.now }
 {
     let mut world = Recorder {
@@ -173,7 +174,7 @@ fn calls_of(alloc: Global, items: &[Item], refused: u32) -> Result<String, Alloc
     text_of(alloc, &world.made)
 }
 
-fn text_of(alloc: Global, made: &[(u16, u32, CallKind)]) -> Result<String, AllocError> {
+fn text_of(alloc: Global, made: &[(u16, u32, CallKind)]) -> Result<String, NoMemory> {
     let mut text = String::new(alloc);
     for (actor, statement, kind) in made {
         text.push_str(if *actor == 1 { " a" } else { " b" })?;

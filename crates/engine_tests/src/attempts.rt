@@ -3,8 +3,9 @@ ghost use Rattle.std.specs.Prelude.{◌≡◌, ◌<◌, ◌≤◌, ◌^◌, IsTr
 ghost use Rattle.edge_api.specs.Actor.{IsFit};
 ghost use Rattle.committer.specs.Machine.{IsReady};
 
-use crate::{AttemptFault, Attempted, Attempts, BodyFault, Judge, Landed, Verdict};
+use committer::{AttemptFault, Attempts, BodyFault, Judge, Landed, Verdict};
 use edge_api::{Answer, Body, Call, Fed, Name};
+use row_base::NoMemory;
 use std::alloc::{AllocError, Global};
 use std::test::Fail;
 use table_rules::{LogName, read_log_name};
@@ -17,11 +18,11 @@ struct Passing {
     until: u64,
 }
 
-fn body_of(alloc: Global, text: &str) -> Result<Body, AllocError> {
+fn body_of(alloc: Global, text: &str) -> Result<Body, NoMemory> {
     Body::make(alloc, text.as_bytes().to_vec(alloc)?)
 }
 
-fn text_at(alloc: Global, now: u64) -> Result<Body, AllocError> {
+fn text_at(alloc: Global, now: u64) -> Result<Body, NoMemory> {
     let text = format!(in alloc; "at {now}")?;
     body_of(alloc, text.as_str())
 }
@@ -67,7 +68,7 @@ enum Say {
     NoMemory,
 }
 
-fn fed(alloc: Global, say: Say) -> Result<Fed, AllocError> {
+fn fed(alloc: Global, say: Say) -> Result<Fed, NoMemory> {
     match say {
         Say::Fault => Ok(Fed::Answer(Answer::Fault)),
         Say::Time(time) => Ok(Fed::Answer(Answer::Time(time))),
@@ -123,7 +124,7 @@ fn turn(
     attempts: &mut Attempts<Passing>,
     say: Say,
     text: &mut String,
-) -> Result<(), AllocError>
+) -> Result<(), NoMemory>
     requires { IsReady attempts.old }
     ensures { IfOk result (λ _. IsReady attempts.new) }
 {
@@ -194,7 +195,7 @@ fn is_right(row: Row) -> bool
 }
 
 /// The calls, and how the attempts ended. They start at 1000, and no text is written after 2000.
-fn run(alloc: Global, row: Row) -> Result<String, AllocError> {
+fn run(alloc: Global, row: Row) -> Result<String, NoMemory> {
     let mut text = String::new(alloc);
     if !is_right(row) {
         return Ok(text);
@@ -232,7 +233,7 @@ fn usual(says: &'static [Say], wanted: &'static str) -> Row {
 }
 
 /// What was told in place of what is wanted, row by row.
-fn wrong(alloc: Global, rows: &[Row]) -> Result<String, AllocError> {
+fn wrong(alloc: Global, rows: &[Row]) -> Result<String, NoMemory> {
     let mut text = String::new(alloc);
     for row in rows {
         let told = run(alloc, *row)?;

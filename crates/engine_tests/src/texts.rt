@@ -1,9 +1,10 @@
-use crate::{
+//! The texts of commits and data files.
+use edge_api::Name;
+use line_texts::{
     TextFault, are_long_rows, read_add, read_columns, read_rows, write_add, write_columns,
     write_rows,
 };
-use edge_api::Name;
-use row_base::{Datum, Row, Text};
+use row_base::{Datum, Rows, Text};
 use std::alloc::Global;
 use std::test::Fail;
 
@@ -35,14 +36,14 @@ fn a_row_is_a_line(rt: HostRuntime) -> Result<(), Fail> {
     let mut data = Vec::new(rt.alloc());
     data.push(Datum::Long(10))?;
     data.push(Datum::Long(-9223372036854775808))?;
-    let mut rows = Vec::new(rt.alloc());
-    rows.push(Row::make(data))?;
-    assert!(rt; are_long_rows(rows.as_slice()));
-    let text = write_rows(rt.alloc(), rows.as_slice())?;
+    let mut rows = Rows::new(rt.alloc());
+    rows.push_from(&mut data)?;
+    assert!(rt; are_long_rows(&rows));
+    let text = write_rows(rt.alloc(), &rows)?;
     assert!(rt; text.as_slice() == b"10,-9223372036854775808\n".as_slice());
     let read = read_rows(rt.alloc(), text.as_slice()).expect(&rt, "it reads");
-    assert_eq!(rt; read.as_slice().len(), 1);
-    assert_eq!(rt; read.as_slice()[0].as_slice().len(), 2);
+    assert_eq!(rt; read.len(), 1);
+    assert_eq!(rt; read.get(0).map(|row| row.len()), Some(2));
     Ok(())
 }
 

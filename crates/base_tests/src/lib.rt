@@ -1,0 +1,5 @@
+//! Tests of the crates at the bottom: rows and what describes them, and the stores.
+#![tactic(auto)]
+
+#[cfg(test)]
+mod rows;

@@ -1,0 +1,11 @@
+//! Tests of the crates of the engine, one module for each crate that is tested, with values worked out by hand.
+#![tactic(auto)]
+
+#[cfg(test)]
+mod actors;
+#[cfg(test)]
+mod attempts;
+#[cfg(test)]
+mod states;
+#[cfg(test)]
+mod texts;
