@@ -1,5 +1,6 @@
 //! Why bytes could not be read.
 ghost use Rattle.std.specs.Prelude.{◌≡◌};
+ghost use Rattle.script_tokens.specs.declared.fault.ParseError.TheVariants as errors;
 
 use row_base::NoMemory;
 use std::alloc::{AllocError, AllocFailed};
@@ -14,7 +15,7 @@ pub enum ParseError {
 }
 
 impl From<AllocError> for ParseError {
-    ghost from_gives = { λ _ e. e ≡ ParseError.NoMemory };
+    ghost from_gives = { λ _ e. e ≡ errors.NoMemory };
 
     fn from(_refused: AllocError) -> ParseError {
         ParseError::NoMemory
@@ -22,7 +23,7 @@ impl From<AllocError> for ParseError {
 }
 
 impl<T: Drop> From<AllocFailed<T>> for ParseError {
-    ghost from_gives = { λ _ e. e ≡ ParseError.NoMemory };
+    ghost from_gives = { λ _ e. e ≡ errors.NoMemory };
 
     fn from(_refused: AllocFailed<T>) -> ParseError {
         ParseError::NoMemory
@@ -30,7 +31,7 @@ impl<T: Drop> From<AllocFailed<T>> for ParseError {
 }
 
 impl From<NoMemory> for ParseError {
-    ghost from_gives = { λ _ e. e ≡ ParseError.NoMemory };
+    ghost from_gives = { λ _ e. e ≡ errors.NoMemory };
 
     fn from(_refused: NoMemory) -> ParseError {
         ParseError::NoMemory
