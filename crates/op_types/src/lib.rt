@@ -7,7 +7,4 @@ mod statement;
 
 pub use refusal::{Clash, Feature, LogFaultKind, ObjectFault, Refusal};
 pub use reply::{CheckpointOutcome, Reply, SessionReplies};
-pub use statement::{Columns, Statement, TableSpec};
-
-#[cfg(test)]
-mod tests;
+pub use statement::{Statement, TableSpec};

@@ -1,4 +1,4 @@
-// Why a statement is refused.
+//! Why a statement is refused.
 ghost use Rattle.std.specs.Prelude.{◌≡◌, IfOk};
 
 use edge_api::{Called, Name};

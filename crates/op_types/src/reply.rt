@@ -1,4 +1,4 @@
-// Replies of statements.
+//! Replies of statements.
 ghost use Rattle.std.specs.Prelude.{◌≡◌, IfOk};
 
 use crate::Refusal;

@@ -2,11 +2,8 @@
 #![tactic(auto)]
 
 mod literal;
-mod push;
+mod printer;
 mod refusal;
 mod reply;
 
 pub use reply::print_replies;
-
-#[cfg(test)]
-mod tests;

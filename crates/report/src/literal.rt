@@ -3,9 +3,8 @@ ghost use Rattle.std.specs.Prelude.{◌≡◌, ◌<◌, ◌++◌, OnOk, codes};
 ghost use Rattle.std.specs.List.{flat_map};
 ghost use Rattle.report.specs.Literals as spec;
 
-use crate::push::{push, push_signed};
-use row_base::{Datum, NoMemory, Row, write_date};
-use std::alloc::Global;
+use crate::printer::Printer;
+use row_base::{Datum, NoMemory};
 
 fn hex_digit(d: u8) -> u8
     requires { d < 16 }
@@ -14,22 +13,22 @@ fn hex_digit(d: u8) -> u8
     if d < 10 { b'0' + d } else { b'a' + (d - 10) }
 }
 
-fn push_escaped(out: &mut Vec<u8>, b: u8) -> Result<(), NoMemory>
-    ensures { OnOk result (out.new.items ≡ out.old.items ++ spec.escaped b) }
+fn push_escaped(out: &mut Printer, b: u8) -> Result<(), NoMemory>
+    ensures { OnOk result (out.new ≡ out.old ++ spec.escaped b) }
 {
     if b == b'\'' {
-        push(out, b"''")
+        out.push(b"''")
     } else if b == b'\\' {
-        push(out, b"\\\\")
+        out.push(b"\\\\")
     } else if b < 32 || b == 127 {
-        push(out, &[b'\\', b'x', hex_digit(b / 16), hex_digit(b % 16)])
+        out.push(&[b'\\', b'x', hex_digit(b / 16), hex_digit(b % 16)])
     } else {
-        push(out, &[b])
+        out.push(&[b])
     }
 }
 
-fn push_each_escaped(out: &mut Vec<u8>, text: &[u8]) -> Result<(), NoMemory>
-    ensures { OnOk result (out.new.items ≡ out.old.items ++ flat_map spec.escaped text.now) }
+fn push_each_escaped(out: &mut Printer, text: &[u8]) -> Result<(), NoMemory>
+    ensures { OnOk result (out.new ≡ out.old ++ flat_map spec.escaped text.now) }
 {
     for b in text {
         push_escaped(out, *b)?;
@@ -37,82 +36,71 @@ fn push_each_escaped(out: &mut Vec<u8>, text: &[u8]) -> Result<(), NoMemory>
     Ok(())
 }
 
-fn push_quoted(out: &mut Vec<u8>, text: &[u8]) -> Result<(), NoMemory>
-    ensures { OnOk result (out.new.items ≡ out.old.items ++ spec.quoted text.now) }
+fn push_quoted(out: &mut Printer, text: &[u8]) -> Result<(), NoMemory>
+    ensures { OnOk result (out.new ≡ out.old ++ spec.quoted text.now) }
 {
-    push(out, b"'")?;
+    out.push(b"'")?;
     push_each_escaped(out, text)?;
-    push(out, b"'")?;
+    out.push(b"'")?;
     Ok(())
 }
 
-fn push_day(alloc: Global, out: &mut Vec<u8>, day: i32) -> Result<(), NoMemory>
-    ensures { OnOk result (out.new.items ≡ out.old.items ++ spec.day_text day) }
+fn push_date(out: &mut Printer, day: i32) -> Result<(), NoMemory>
+    ensures { OnOk result (out.new ≡ out.old ++ (codes "date '" ++ spec.day_text day ++ codes "'")) }
 {
-    if -719_162 <= day && day <= 2_932_896 {
-        let text = write_date(alloc, day)?;
-        push(out, text.as_str().as_bytes())
-    } else {
-        push_signed(alloc, out, day as i64)
-    }
-}
-
-fn push_date(alloc: Global, out: &mut Vec<u8>, day: i32) -> Result<(), NoMemory>
-    ensures { OnOk result (out.new.items ≡ out.old.items ++ (codes "date '" ++ spec.day_text day ++ codes "'")) }
-{
-    push(out, b"date '")?;
-    push_day(alloc, out, day)?;
-    push(out, b"'")?;
+    out.push(b"date '")?;
+    out.push_day(day)?;
+    out.push(b"'")?;
     Ok(())
 }
 
-fn push_boolean(out: &mut Vec<u8>, b: bool) -> Result<(), NoMemory>
-    ensures { OnOk result (out.new.items ≡ out.old.items ++ spec.boolean_text b) }
+fn push_boolean(out: &mut Printer, b: bool) -> Result<(), NoMemory>
+    ensures { OnOk result (out.new ≡ out.old ++ spec.boolean_text b) }
 {
     if b {
-        push(out, b"true")
+        out.push(b"true")
     } else {
-        push(out, b"false")
+        out.push(b"false")
     }
 }
 
-fn push_datum(alloc: Global, out: &mut Vec<u8>, datum: &Datum) -> Result<(), NoMemory>
-    ensures { OnOk result (out.new.items ≡ out.old.items ++ spec.literal datum.now) }
+fn push_datum(out: &mut Printer, datum: &Datum) -> Result<(), NoMemory>
+    ensures { OnOk result (out.new ≡ out.old ++ spec.literal datum.now) }
 {
     match datum {
-        Datum::Null => push(out, b"null"),
-        Datum::Long(n) => push_signed(alloc, out, *n),
-        Datum::Integer(n) => push_signed(alloc, out, *n as i64),
+        Datum::Null => out.push(b"null"),
+        Datum::Long(n) => out.push_signed(*n),
+        Datum::Integer(n) => out.push_signed(*n as i64),
         Datum::Boolean(b) => push_boolean(out, *b),
-        Datum::Text(text) => push_quoted(out, text.as_str().as_bytes()),
-        Datum::Date(day) => push_date(alloc, out, *day),
+        Datum::Text(text) => push_quoted(out, text.as_bytes()),
+        Datum::Date(day) => push_date(out, *day),
     }
 }
 
-fn push_behind_comma(alloc: Global, out: &mut Vec<u8>, datum: &Datum) -> Result<(), NoMemory>
-    ensures { OnOk result (out.new.items ≡ out.old.items ++ spec.behind_comma datum.now) }
+fn push_behind_comma(out: &mut Printer, datum: &Datum) -> Result<(), NoMemory>
+    ensures { OnOk result (out.new ≡ out.old ++ spec.behind_comma datum.now) }
 {
-    push(out, b", ")?;
-    push_datum(alloc, out, datum)?;
+    out.push(b", ")?;
+    push_datum(out, datum)?;
     Ok(())
 }
 
-fn push_others(alloc: Global, out: &mut Vec<u8>, others: &[Datum]) -> Result<(), NoMemory>
-    ensures { OnOk result (out.new.items ≡ out.old.items ++ flat_map spec.behind_comma others.now) }
+fn push_others(out: &mut Printer, others: &[Datum]) -> Result<(), NoMemory>
+    ensures { OnOk result (out.new ≡ out.old ++ flat_map spec.behind_comma others.now) }
 {
     for datum in others {
-        push_behind_comma(alloc, out, datum)?;
+        push_behind_comma(out, datum)?;
     }
     Ok(())
 }
 
-fn push_data(alloc: Global, out: &mut Vec<u8>, row: &[Datum]) -> Result<(), NoMemory>
-    ensures { OnOk result (out.new.items ≡ out.old.items ++ spec.data_text row.now) }
+fn push_data(out: &mut Printer, row: &[Datum]) -> Result<(), NoMemory>
+    ensures { OnOk result (out.new ≡ out.old ++ spec.data_text row.now) }
 {
     match row.split_first() {
         Some((first, others)) => {
-            push_datum(alloc, out, first)?;
-            push_others(alloc, out, others)?;
+            push_datum(out, first)?;
+            push_others(out, others)?;
             Ok(())
         }
         None => Ok(()),
@@ -120,11 +108,11 @@ fn push_data(alloc: Global, out: &mut Vec<u8>, row: &[Datum]) -> Result<(), NoMe
 }
 
 /// Writes a row and its line end at the end of a text. After an error the text may have a part of it.
-pub fn push_row(alloc: Global, out: &mut Vec<u8>, row: &Row) -> Result<(), NoMemory>
-    ensures { OnOk result (out.new.items ≡ out.old.items ++ spec.row_line row.now) }
+pub fn push_row(out: &mut Printer, row: &[Datum]) -> Result<(), NoMemory>
+    ensures { OnOk result (out.new ≡ out.old ++ spec.row_line row.now) }
 {
-    push(out, b"(")?;
-    push_data(alloc, out, row.as_slice())?;
-    push(out, b")\n")?;
+    out.push(b"(")?;
+    push_data(out, row)?;
+    out.push(b")\n")?;
     Ok(())
 }

@@ -1,7 +1,8 @@
 -- Items behind commas, as a loop reads them.
 use Rattle.std.proofs.Common.{◌≡◌, ℕ, zero, suc, ◌+◌, ◌-◌, ◌≤◌, ◌<◌, List, [], ◌∷◌, ◌++◌, length, Option, Some, None, refl, sym, ap, ◌∙◌, append_assoc, arith, length-append}
 use Rattle.std.proofs.lemmas.List.{append-nil}
-use Rattle.script_tokens.specs.Gives.{◌>>=◌, Fails}
+use Rattle.script_tokens.specs.Gives.{Fails}
+use Rattle.row_base.specs.Readings.{◌>>=◌}
 use Rattle.script_grammar.specs.Shape.{comma_at, more_at, many_at}
 use Rattle.script_tokens.specs.declared.fault.ParseError.{ParseError}
 use Rattle.script_tokens.specs.declared.fault.ParseError.TheVariants as errors

@@ -10,17 +10,23 @@ use script_tokens::{ParseError, Symbol, Token};
 use std::alloc::Global;
 
 /// The tokens behind the wanted word, if it stands at the front.
-pub fn find_word<'a>(tokens: &'a [Token], wanted: &[u8]) -> Option<&'a [Token]>
+pub fn find_word<'a, 'b>(tokens: &'a [Token<'b>], wanted: &[u8]) -> Option<&'a [Token<'b>]>
     ensures { option_map (λ r. r.now) result ≡ word_at wanted.now tokens.now }
 {
     match tokens {
-        [Token::Word(found), rest @ ..] if found.as_slice() == wanted => Some(rest),
-        _ => None,
+        [first, rest @ ..] => match first {
+            Token::Word(found) if found.as_slice() == wanted => Some(rest),
+            _ => None,
+        },
+        [] => None,
     }
 }
 
 /// The tokens behind the wanted word. The error `Form` comes where it doesn't stand at the front.
-pub fn take_word<'a>(tokens: &'a [Token], wanted: &[u8]) -> Result<&'a [Token], ParseError>
+pub fn take_word<'a, 'b>(
+    tokens: &'a [Token<'b>],
+    wanted: &[u8],
+) -> Result<&'a [Token<'b>], ParseError>
     ensures { Gives (λ r. r.now) result (word_at wanted.now tokens.now) }
 {
     match find_word(tokens, wanted) {
@@ -30,7 +36,7 @@ pub fn take_word<'a>(tokens: &'a [Token], wanted: &[u8]) -> Result<&'a [Token], 
 }
 
 /// The tokens behind a `(`. The error `Form` comes where none stands at the front.
-pub fn take_open(tokens: &[Token]) -> Result<&[Token], ParseError>
+pub fn take_open<'a, 'b>(tokens: &'a [Token<'b>]) -> Result<&'a [Token<'b>], ParseError>
     ensures { Gives (λ r. r.now) result (open_at tokens.now) }
 {
     match tokens {
@@ -40,7 +46,7 @@ pub fn take_open(tokens: &[Token]) -> Result<&[Token], ParseError>
 }
 
 /// The tokens behind a `)`. The error `Form` comes where none stands at the front.
-pub fn take_close(tokens: &[Token]) -> Result<&[Token], ParseError>
+pub fn take_close<'a, 'b>(tokens: &'a [Token<'b>]) -> Result<&'a [Token<'b>], ParseError>
     ensures { Gives (λ r. r.now) result (close_at tokens.now) }
 {
     match tokens {
@@ -50,7 +56,7 @@ pub fn take_close(tokens: &[Token]) -> Result<&[Token], ParseError>
 }
 
 /// The tokens behind a comma, if one stands at the front.
-pub fn find_comma(tokens: &[Token]) -> Option<&[Token]>
+pub fn find_comma<'a, 'b>(tokens: &'a [Token<'b>]) -> Option<&'a [Token<'b>]>
     ensures { option_map (λ r. r.now) result ≡ comma_at tokens.now }
 {
     match tokens {
@@ -60,37 +66,46 @@ pub fn find_comma(tokens: &[Token]) -> Option<&[Token]>
 }
 
 /// The number at the front, and what follows it.
-pub fn take_number(tokens: &[Token]) -> Result<(i64, &[Token]), ParseError>
+pub fn take_number<'a, 'b>(tokens: &'a [Token<'b>]) -> Result<(i64, &'a [Token<'b>]), ParseError>
     ensures { Gives (λ x. (x.0, x.1.now)) result (number_at tokens.now) }
 {
     match tokens {
-        [Token::Number(n), rest @ ..] => Ok((*n, rest)),
-        _ => Err(ParseError::Form),
+        [first, rest @ ..] => match first {
+            Token::Number(n) => Ok((*n, rest)),
+            _ => Err(ParseError::Form),
+        },
+        [] => Err(ParseError::Form),
     }
 }
 
 /// The literal at the front, and what follows it. A literal is a number.
-pub fn take_literal(tokens: &[Token]) -> Result<(Datum, &[Token]), ParseError>
+pub fn take_literal<'a, 'b>(tokens: &'a [Token<'b>]) -> Result<(Datum, &'a [Token<'b>]), ParseError>
     ensures { Gives (λ x. (x.0, x.1.now)) result (literal_at tokens.now) }
 {
     match tokens {
-        [Token::Number(n), rest @ ..] => Ok((Datum::Long(*n), rest)),
-        _ => Err(ParseError::Form),
+        [first, rest @ ..] => match first {
+            Token::Number(n) => Ok((Datum::Long(*n), rest)),
+            _ => Err(ParseError::Form),
+        },
+        [] => Err(ParseError::Form),
     }
 }
 
 /// The name at the front, and what follows it.
-pub fn take_name(alloc: Global, tokens: &[Token]) -> Result<(Text, &[Token]), ParseError>
+pub fn take_name<'a, 'b>(
+    alloc: Global,
+    tokens: &'a [Token<'b>],
+) -> Result<(Text, &'a [Token<'b>]), ParseError>
     ensures { Gives (λ x. (x.0, x.1.now)) result (name_at tokens.now) }
 {
     match tokens {
-        [Token::Word(found), rest @ ..] => {
-            if !is_name(found.as_slice()) {
-                return Err(ParseError::Form);
+        [first, rest @ ..] => match first {
+            Token::Word(found) if is_name(found.as_slice()) => {
+                Ok((text_of_name(alloc, found.as_slice())?, rest))
             }
-            Ok((text_of_name(alloc, found.as_slice())?, rest))
-        }
-        _ => Err(ParseError::Form),
+            _ => Err(ParseError::Form),
+        },
+        [] => Err(ParseError::Form),
     }
 }
 

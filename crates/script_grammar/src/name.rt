@@ -36,10 +36,7 @@ pub fn text_of_name(alloc: Global, name: &[u8]) -> Result<Text, ParseError>
     ensures err { IfErr result (λ e. e ≡ ParseError.NoMemory) }
 {
     match str::from_utf8(name) {
-        Ok(text) => match Text::make(alloc, text) {
-            Ok(text) => Ok(text),
-            Err(_) => Err(ParseError::NoMemory),
-        },
+        Ok(text) => Ok(Text::make(alloc, text)?),
         Err(_) => Err(ParseError::Form),
     }
 }

@@ -7,14 +7,15 @@ use Rattle.std.proofs.lemmas.Bool.{eqb-true}
 use Rattle.std.proofs.lemmas.Bool.Decides.{eqb_tells, nat_tests}
 use Rattle.actor_core.specs.declared.schedule.ItemForm.{ItemForm}
 use Rattle.actor_core.specs.declared.schedule.ItemForm.TheVariants.{One, Statement, Attempt}
-use Rattle.script_tokens.specs.Gives.{◌>>=◌}
+use Rattle.row_base.specs.Readings.{◌>>=◌}
 use Rattle.script_tokens.specs.Words.{is_word_byte, is_reserved}
 use Rattle.script_tokens.specs.Tokens.{begins_letter}
 use Rattle.script_tokens.proofs.Runs.{some_is, bind_some, cond_some, guarded, and_true, runs, letter_no_space}
 use Rattle.script_grammar.specs.Names.{is_name}
 use Rattle.script_text.specs.declared.script.SessionScript.{SessionScript}
 use Rattle.script_text.specs.declared.place.Placed.{Placed}
-use Rattle.script_text.specs.Items.{NamedItem, form_text, ends_item, SpellsItems, nothing, space, item, form_at, item_of, item_at, put, items_behind, items_of, starts_space}
+use Rattle.script_text.specs.Items.{NamedItem, form_text, ends_item, SpellsItems, nothing, space, item, form_at, item_of, item_at, put, items_behind, items_of}
+use Rattle.script_tokens.specs.Reading.{starts_space}
 use Rattle.script_text.specs.Places.{placed, placed_from, put_placed}
 
 skip_behind : (k : ℕ) (bs : List ℕ) → items_behind k bs ≡ items_behind 0 (drop k bs)

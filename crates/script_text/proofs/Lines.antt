@@ -1,6 +1,6 @@
 -- Reading what a line says is the inverse of spelling it.
 use Rattle.std.proofs.Common.{◌≡◌, ℕ, List, [], Some, refl, sym, ap, subst, inl, inr}
-use Rattle.script_tokens.specs.Gives.{◌>>=◌}
+use Rattle.row_base.specs.Readings.{◌>>=◌}
 use Rattle.script_tokens.specs.Reading.{line_tokens}
 use Rattle.script_tokens.proofs.Runs.{bind_some, some_is}
 use Rattle.script_tokens.proofs.Lines.{found, only}

@@ -3,7 +3,7 @@ use Rattle.std.specs.Prelude.{◌≡◌, ℕ, zero, suc, ◌-◌, Bool, true, fa
 use Rattle.std.specs.List.{prefix_len}
 use Rattle.actor_core.specs.declared.schedule.ItemForm.{ItemForm}
 use Rattle.actor_core.specs.declared.schedule.ItemForm.TheVariants.{One, Statement, Attempt}
-use Rattle.script_tokens.specs.Gives.{◌>>=◌}
+use Rattle.row_base.specs.Readings.{◌>>=◌}
 use Rattle.script_tokens.specs.Words.{is_word_byte}
 use Rattle.script_grammar.specs.Names.{is_name}
 
@@ -52,7 +52,3 @@ items_behind zero (b ∷ bs) = if b == 32 then items_behind zero bs else (item_a
 
 abbrev pub items_of : List ℕ → Option (List NamedItem)
 items_of bs = items_behind 0 bs
-
-abbrev pub starts_space : List ℕ → Bool
-starts_space [] = false
-starts_space (b ∷ bs) = b == 32

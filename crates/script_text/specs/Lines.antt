@@ -1,7 +1,7 @@
 -- What a line says, wherever it stands.
 use Rattle.std.specs.Prelude.{ℕ, List, [], Option, Some, codes}
 use Rattle.std.proofs.Common.{inl, inr}
-use Rattle.script_tokens.specs.Gives.{◌>>=◌}
+use Rattle.row_base.specs.Readings.{◌>>=◌}
 use Rattle.script_tokens.specs.declared.token.Token.{Token}
 use Rattle.script_tokens.specs.Tokens.{SpellsLine}
 use Rattle.script_tokens.specs.Reading.{line_tokens}

@@ -10,7 +10,7 @@ use Rattle.op_types.specs.declared.statement.Statement.TheVariants as statement
 use Rattle.row_base.specs.declared.row.Kind.TheVariants as kind
 use Rattle.row_base.specs.declared.schema.Column.{Column}
 use Rattle.row_base.specs.declared.row.Datum.{Datum}
-use Rattle.script_tokens.specs.Gives.{◌>>=◌}
+use Rattle.row_base.specs.Readings.{◌>>=◌}
 use Rattle.script_text.specs.declared.script.Script.{Script}
 use Rattle.script_text.specs.declared.script.Header.{Header as AHeader}
 use Rattle.script_text.specs.declared.script.Header.TheVariants as header

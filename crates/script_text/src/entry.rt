@@ -9,33 +9,26 @@ ghost use Rattle.std.specs.Str.{bytes_eq};
 use crate::items::{has_bytes, placed_items};
 use crate::line::{Line, read_one};
 use crate::place::{Entry, Place, Placed};
-use crate::script::{Header, Items, Script, SessionScript, Sessions, Statements};
+use crate::script::{Header, Script, SessionScript};
 use actor_core::Item;
-use op_types::{Columns, Statement, TableSpec};
-use row_base::{Column, Kind, Rows, Text};
+use op_types::{Statement, TableSpec};
+use row_base::limits::{
+    MAX_ATTEMPTS, MAX_COLUMNS, MAX_SCHEDULE_ITEMS, MAX_SESSIONS, MAX_STATEMENT_ROWS, MAX_STATEMENTS,
+};
+use row_base::{Column, Items, Kind, Rows, Text};
 use script_tokens::ParseError;
 use std::alloc::Global;
 
-const COLUMN_LIMIT: usize = 64;
+/// The most bytes of a session's name.
+const MAX_SESSION_NAME: usize = 16;
 
-const ATTEMPTS_LIMIT: i64 = 1_000_000;
-
-const SESSION_NAME_LIMIT: usize = 16;
-
-const SESSION_LIMIT: usize = 64;
-
-const STATEMENT_LIMIT: usize = 4_096;
-
-const ROW_LIMIT: usize = 65_536;
-
-const ITEM_LIMIT: usize = 1_048_576;
-
+/// How many puts of a commit a statement makes at most, where the script doesn't say.
 const ATTEMPTS: u32 = 1_000;
 
 fn attempts_of(number: i64) -> Option<u32>
     ensures { result ≡ attempts_of number }
 {
-    if number >= 1 && number <= ATTEMPTS_LIMIT {
+    if number >= 1 && number <= MAX_ATTEMPTS as i64 {
         Some(number as u32)
     } else {
         None
@@ -45,7 +38,7 @@ fn attempts_of(number: i64) -> Option<u32>
 fn is_among(name: &Text, others: &[Text]) -> bool
     ensures { result ≡ list_any (λ m. bytes_eq m name.now) others.now }
 {
-    let name = name.as_str().as_bytes();
+    let name = name.as_bytes();
     others.iter().any(|other| has_bytes(other, name))
 }
 
@@ -65,7 +58,7 @@ fn are_distinct(names: &[Text]) -> bool
 fn are_columns(names: &[Text]) -> bool
     ensures { result ≡ are_columns names.now }
 {
-    names.len() <= COLUMN_LIMIT && are_distinct(names)
+    names.len() <= MAX_COLUMNS && are_distinct(names)
 }
 
 fn long_columns(alloc: Global, names: &[Text]) -> Result<Vec<Column>, ParseError>
@@ -74,14 +67,11 @@ fn long_columns(alloc: Global, names: &[Text]) -> Result<Vec<Column>, ParseError
 {
     let mut columns = Vec::new(alloc);
     for name in names {
-        match name.copy() {
-            Ok(name) => columns.push(Column {
-                name,
-                kind: Kind::Long,
-                nullable: false,
-            })?,
-            Err(_) => return Err(ParseError::NoMemory),
-        }
+        columns.push(Column {
+            name: name.copy()?,
+            kind: Kind::Long,
+            nullable: false,
+        })?;
     }
     Ok(columns)
 }
@@ -91,7 +81,7 @@ fn table_of(alloc: Global, names: &[Text]) -> Result<Header, ParseError>
     ensures err { IfErr result (λ e. e ≡ ParseError.NoMemory) }
 {
     Ok(Header::Table(TableSpec {
-        columns: Columns::make(long_columns(alloc, names)?),
+        columns: Items::from_vec(long_columns(alloc, names)?),
     }))
 }
 
@@ -114,7 +104,7 @@ fn are_lower(name: &[u8]) -> bool
 fn is_session_name(name: &[u8]) -> bool
     ensures { result ≡ is_session_name name.now }
 {
-    begins_lower(name) && are_lower(name) && name.len() <= SESSION_NAME_LIMIT
+    begins_lower(name) && are_lower(name) && name.len() <= MAX_SESSION_NAME
 }
 
 fn column_count(header: &Header) -> usize
@@ -130,9 +120,12 @@ fn fit_table(script: &Script, rows: &Rows) -> bool
     ensures { result ≡ fit_table script.now rows.now }
 {
     let count = column_count(&script.header);
-    rows.as_slice()
-        .iter()
-        .all(|row| row.as_slice().len() == count)
+    for row in rows.iter() {
+        if row.len() != count {
+            return false;
+        }
+    }
+    true
 }
 
 fn start_entry(alloc: Global, attempts: Option<u32>, line: Line) -> Result<Entry, ParseError>
@@ -156,7 +149,7 @@ fn start_entry(alloc: Global, attempts: Option<u32>, line: Line) -> Result<Entry
 fn session_start(name: Text) -> Result<Entry, ParseError>
     ensures { Gives (λ e. e) result (session_start name) }
 {
-    if is_session_name(name.as_str().as_bytes()) {
+    if is_session_name(name.as_bytes()) {
         Ok(Entry::Session(name))
     } else {
         Err(ParseError::Form)
@@ -238,7 +231,7 @@ pub fn is_known(place: &Place, entry: &Entry) -> bool
     ensures { result ≡ is_known place.now entry.now }
 {
     match entry {
-        Entry::Session(name) => is_new(place, name.as_str().as_bytes()),
+        Entry::Session(name) => is_new(place, name.as_bytes()),
         Entry::Items(items) => are_placed(items.as_slice()),
         _ => true,
     }
@@ -248,8 +241,8 @@ fn session_fits(place: &Place) -> bool
     ensures { result ≡ session_fits place.now }
 {
     match place {
-        Place::Headed(script) => script.sessions.as_slice().len() < SESSION_LIMIT,
-        Place::Session(script, _) => script.sessions.as_slice().len() < SESSION_LIMIT - 1,
+        Place::Headed(script) => script.sessions.as_slice().len() < MAX_SESSIONS,
+        Place::Session(script, _) => script.sessions.as_slice().len() < MAX_SESSIONS - 1,
         _ => true,
     }
 }
@@ -258,7 +251,7 @@ fn row_count(statement: &Statement) -> usize
     ensures { result ≡ row_count statement.now }
 {
     match statement {
-        Statement::Insert { rows } => rows.as_slice().len(),
+        Statement::Insert { rows } => rows.len(),
         _ => 0,
     }
 }
@@ -268,8 +261,8 @@ fn statement_fits(place: &Place, statement: &Statement) -> bool
 {
     match place {
         Place::Session(_, current) => {
-            row_count(statement) <= ROW_LIMIT
-                && current.statements.as_slice().len() < STATEMENT_LIMIT
+            row_count(statement) <= MAX_STATEMENT_ROWS
+                && current.statements.as_slice().len() < MAX_STATEMENTS
         }
         _ => true,
     }
@@ -280,7 +273,7 @@ fn items_fit(place: &Place, count: usize) -> bool
 {
     match place {
         Place::Items(script) => {
-            let room = ITEM_LIMIT.checked_sub(script.items.as_slice().len());
+            let room = MAX_SCHEDULE_ITEMS.checked_sub(script.items.as_slice().len());
             match room {
                 Some(room) => count <= room,
                 None => false,
@@ -314,8 +307,8 @@ fn begun(alloc: Global, attempts: Option<u32>, header: Header) -> Script
     Script {
         attempts,
         header,
-        sessions: Sessions::make(Vec::new(alloc)),
-        items: Items::make(Vec::new(alloc)),
+        sessions: Items::from_vec(Vec::new(alloc)),
+        items: Items::from_vec(Vec::new(alloc)),
     }
 }
 
@@ -324,7 +317,7 @@ fn named(alloc: Global, name: Text) -> SessionScript
 {
     SessionScript {
         name,
-        statements: Statements::make(Vec::new(alloc)),
+        statements: Items::from_vec(Vec::new(alloc)),
     }
 }
 
@@ -338,7 +331,7 @@ pub fn with_session(script: Script, session: SessionScript) -> Result<Script, Pa
     Ok(Script {
         attempts: script.attempts,
         header: script.header,
-        sessions: Sessions::make(sessions),
+        sessions: Items::from_vec(sessions),
         items: script.items,
     })
 }
@@ -351,7 +344,7 @@ fn with_statement(session: SessionScript, statement: Statement) -> Result<Sessio
     statements.push(statement)?;
     Ok(SessionScript {
         name: session.name,
-        statements: Statements::make(statements),
+        statements: Items::from_vec(statements),
     })
 }
 
@@ -388,7 +381,7 @@ fn with_items(script: Script, items: &[Placed]) -> Result<Script, ParseError>
         attempts: script.attempts,
         header: script.header,
         sessions: script.sessions,
-        items: Items::make(all_known(script.items.into_vec(), items)?),
+        items: Items::from_vec(all_known(script.items.into_vec(), items)?),
     })
 }
 

@@ -3,22 +3,22 @@ ghost use Rattle.std.specs.Prelude.{◌≡◌, ◌<◌, ◌≤◌, option_map, l
 ghost use Rattle.std.specs.List.{position};
 ghost use Rattle.std.specs.Str.{bytes_eq};
 ghost use Rattle.script_tokens.specs.Gives.{Gives};
-ghost use Rattle.script_text.specs.Items.{ends_item, form_at, item_at, starts_space};
+ghost use Rattle.script_text.specs.Items.{ends_item, form_at, item_at};
 ghost use Rattle.script_text.specs.Places.{place_named, placed_from, put_placed};
 
-use crate::place::{Placed, PlacedItems};
+use crate::place::Placed;
 use crate::script::SessionScript;
 use actor_core::ItemForm;
-use row_base::Text;
+use row_base::{Items, Text};
 use script_grammar::is_name;
-use script_tokens::{ParseError, word_run};
+use script_tokens::{ParseError, starts_space, word_run};
 use std::alloc::Global;
 
 /// Whether the text has these bytes.
 pub fn has_bytes(text: &Text, bytes: &[u8]) -> bool
     ensures { result ≡ bytes_eq text.now bytes.now }
 {
-    text.as_str().as_bytes() == bytes
+    text.as_bytes() == bytes
 }
 
 fn ends_item(bytes: &[u8]) -> bool
@@ -82,15 +82,6 @@ fn place_named(sessions: &[SessionScript], name: &[u8]) -> Option<u16>
     }
 }
 
-fn starts_space(bytes: &[u8]) -> bool
-    ensures { result ≡ starts_space bytes.now }
-{
-    match bytes {
-        [] => false,
-        [b, ..] => *b == b' ',
-    }
-}
-
 /// One step: a space, or an item.
 fn next<'a>(sessions: &[SessionScript], bytes: &'a [u8]) -> Option<(Option<Placed>, &'a [u8])>
     requires room { length sessions.now ≤ 64 }
@@ -117,7 +108,7 @@ pub fn placed_items(
     alloc: Global,
     sessions: &[SessionScript],
     line: &[u8],
-) -> Result<PlacedItems, ParseError>
+) -> Result<Items<Placed>, ParseError>
     requires { length sessions.now ≤ 64 }
     ensures { Gives (λ x. x) result (placed_from sessions.now line.now) }
 {
@@ -134,5 +125,5 @@ pub fn placed_items(
             None => return Err(ParseError::Form),
         }
     }
-    Ok(PlacedItems::make(all))
+    Ok(Items::from_vec(all))
 }

@@ -7,10 +7,6 @@ mod line;
 mod parse;
 mod place;
 mod script;
-#[cfg(test)]
-mod tests;
 
 pub use parse::parse_script;
-pub use script::{
-    Header, Items, Script, ScriptFault, ScriptFaultKind, SessionScript, Sessions, Statements,
-};
+pub use script::{Header, Script, ScriptFault, ScriptFaultKind, SessionScript};

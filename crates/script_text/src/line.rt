@@ -4,41 +4,18 @@ ghost use Rattle.script_tokens.specs.Gives.{Gives};
 ghost use Rattle.script_grammar.specs.Shape.{read, listed, a_literal, whole};
 ghost use Rattle.script_text.specs.Lines.{column, row, line_shape, line_value, reading};
 
-use row_base::{Datum, Row, Rows, Text};
+use row_base::{Datum, Items, Rows, Text};
 use script_grammar::{
     find_comma, find_word, take_close, take_literal, take_name, take_number, take_open, take_word,
 };
 use script_tokens::{ParseError, Token, tokens_of};
 use std::alloc::Global;
-use std::marker::Model;
-
-/// Names of columns, in order.
-#[derive(Drop)]
-pub struct Names {
-    names: Vec<Text>,
-}
-
-impl Model for Names {
-    ghost use Rattle.std.specs.Prelude.{List, ℕ};
-
-    ghost Value = { List (List ℕ) };
-
-    ghost view = { λ n. n.names.items };
-}
-
-impl Names {
-    pub fn as_slice(&self) -> &[Text]
-        ensures { result.now ≡ self.now }
-    {
-        &self.names
-    }
-}
 
 /// What a line says, wherever it stands.
 #[derive(Drop)]
 pub enum Line {
     Attempts(i64),
-    Table(Names),
+    Table(Items<Text>),
     Session(Text),
     Insert(Rows),
     Select,
@@ -46,7 +23,10 @@ pub enum Line {
 }
 
 /// `NAME long not null`
-fn column(alloc: Global, tokens: &[Token]) -> Result<(Text, &[Token]), ParseError>
+fn column<'a, 'b>(
+    alloc: Global,
+    tokens: &'a [Token<'b>],
+) -> Result<(Text, &'a [Token<'b>]), ParseError>
     ensures { Gives (λ x. (x.0, x.1.now)) result (read column tokens.now) }
 {
     let (name, rest) = take_name(alloc, tokens)?;
@@ -56,7 +36,10 @@ fn column(alloc: Global, tokens: &[Token]) -> Result<(Text, &[Token]), ParseErro
     Ok((name, rest))
 }
 
-fn columns(alloc: Global, tokens: &[Token]) -> Result<(Vec<Text>, &[Token]), ParseError>
+fn columns<'a, 'b>(
+    alloc: Global,
+    tokens: &'a [Token<'b>],
+) -> Result<(Vec<Text>, &'a [Token<'b>]), ParseError>
     ensures { Gives (λ x. (x.0.items, x.1.now)) result (read (listed column) tokens.now) }
 {
     let (first, mut rest) = column(alloc, tokens)?;
@@ -70,11 +53,16 @@ fn columns(alloc: Global, tokens: &[Token]) -> Result<(Vec<Text>, &[Token]), Par
     Ok((all, rest))
 }
 
-fn literals(alloc: Global, tokens: &[Token]) -> Result<(Vec<Datum>, &[Token]), ParseError>
+/// Literals with commas between them. They go into the list, which has none.
+fn literals<'a, 'b>(
+    data: Vec<Datum>,
+    tokens: &'a [Token<'b>],
+) -> Result<(Vec<Datum>, &'a [Token<'b>]), ParseError>
+    requires { data.items ≡ [] }
     ensures { Gives (λ x. (x.0.items, x.1.now)) result (read (listed a_literal) tokens.now) }
 {
     let (first, mut rest) = take_literal(tokens)?;
-    let mut all = Vec::new(alloc);
+    let mut all = data;
     all.push(first)?;
     while let Some(tail) = find_comma(rest) {
         let (next, after) = take_literal(tail)?;
@@ -84,32 +72,44 @@ fn literals(alloc: Global, tokens: &[Token]) -> Result<(Vec<Datum>, &[Token]), P
     Ok((all, rest))
 }
 
-/// `(LITERAL, ..)`
-fn row_at_front(alloc: Global, tokens: &[Token]) -> Result<(Row, &[Token]), ParseError>
-    ensures { Gives (λ x. (x.0, x.1.now)) result (read row tokens.now) }
+/// `(LITERAL, ..)`. The literals go into the list, which has none.
+fn row_at_front<'a, 'b>(
+    data: Vec<Datum>,
+    tokens: &'a [Token<'b>],
+) -> Result<(Vec<Datum>, &'a [Token<'b>]), ParseError>
+    requires { data.items ≡ [] }
+    ensures { Gives (λ x. (x.0.items, x.1.now)) result (read row tokens.now) }
 {
     let rest = take_open(tokens)?;
-    let (data, rest) = literals(alloc, rest)?;
+    let (data, rest) = literals(data, rest)?;
     let rest = take_close(rest)?;
-    Ok((Row::make(data), rest))
+    Ok((data, rest))
 }
 
-fn rows(alloc: Global, tokens: &[Token]) -> Result<(Vec<Row>, &[Token]), ParseError>
-    ensures { Gives (λ x. (x.0.items, x.1.now)) result (read (listed row) tokens.now) }
+/// Rows with commas between them. One list takes the data of each in turn.
+fn rows<'a, 'b>(
+    alloc: Global,
+    tokens: &'a [Token<'b>],
+) -> Result<(Rows, &'a [Token<'b>]), ParseError>
+    ensures { Gives (λ x. (x.0, x.1.now)) result (read (listed row) tokens.now) }
 {
-    let (first, mut rest) = row_at_front(alloc, tokens)?;
-    let mut all = Vec::new(alloc);
-    all.push(first)?;
+    let (mut data, mut rest) = row_at_front(Vec::new(alloc), tokens)?;
+    let mut all = Rows::new(alloc);
+    all.push_from(&mut data)?;
     while let Some(tail) = find_comma(rest) {
-        let (next, after) = row_at_front(alloc, tail)?;
-        all.push(next)?;
+        let (next, after) = row_at_front(data, tail)?;
+        data = next;
+        all.push_from(&mut data)?;
         rest = after;
     }
     Ok((all, rest))
 }
 
 /// What stands at the front of the tokens, by its first word.
-fn read_line(alloc: Global, tokens: &[Token]) -> Result<(Line, &[Token]), ParseError>
+fn read_line<'a, 'b>(
+    alloc: Global,
+    tokens: &'a [Token<'b>],
+) -> Result<(Line, &'a [Token<'b>]), ParseError>
     ensures { Gives (λ x. (line_value x.0, x.1.now)) result (read line_shape tokens.now) }
 {
     if let Some(rest) = find_word(tokens, b"attempts") {
@@ -120,7 +120,7 @@ fn read_line(alloc: Global, tokens: &[Token]) -> Result<(Line, &[Token]), ParseE
         let rest = take_open(rest)?;
         let (names, rest) = columns(alloc, rest)?;
         let rest = take_close(rest)?;
-        return Ok((Line::Table(Names { names }), rest));
+        return Ok((Line::Table(Items::from_vec(names)), rest));
     }
     if let Some(rest) = find_word(tokens, b"session") {
         let (name, rest) = take_name(alloc, rest)?;
@@ -128,7 +128,7 @@ fn read_line(alloc: Global, tokens: &[Token]) -> Result<(Line, &[Token]), ParseE
     }
     if let Some(rest) = find_word(tokens, b"insert") {
         let (rows, rest) = rows(alloc, rest)?;
-        return Ok((Line::Insert(Rows::make(rows)), rest));
+        return Ok((Line::Insert(rows), rest));
     }
     if let Some(rest) = find_word(tokens, b"select") {
         return Ok((Line::Select, rest));
@@ -138,7 +138,7 @@ fn read_line(alloc: Global, tokens: &[Token]) -> Result<(Line, &[Token]), ParseE
 }
 
 #[tactic(auto, unfolding(script_grammar::specs::Shape::whole))]
-fn whole_line(alloc: Global, tokens: &[Token]) -> Result<Line, ParseError>
+fn whole_line(alloc: Global, tokens: &[Token<'_>]) -> Result<Line, ParseError>
     ensures { Gives line_value result (whole line_shape tokens.now) }
 {
     let (line, rest) = read_line(alloc, tokens)?;

@@ -1,11 +1,8 @@
 //! Where a script's reader stands between two lines.
-ghost use Rattle.std.specs.Prelude.{◌≡◌};
-
 use crate::{Header, Script, SessionScript};
 use actor_core::ItemForm;
 use op_types::Statement;
-use row_base::Text;
-use std::marker::Model;
+use row_base::{Items, Text};
 
 /// The place behind the lines that were taken so far.
 #[derive(Drop)]
@@ -27,35 +24,6 @@ pub struct Placed {
     pub form: ItemForm,
 }
 
-/// The items of a line, in order.
-#[derive(Drop)]
-pub struct PlacedItems {
-    items: Vec<Placed>,
-}
-
-impl Model for PlacedItems {
-    ghost use Rattle.std.specs.Prelude.{List};
-    ghost use Rattle.script_text.specs.declared.place.Placed.{Placed};
-
-    ghost Value = { List Placed };
-
-    ghost view = { λ p. p.items.items };
-}
-
-impl PlacedItems {
-    pub fn make(items: Vec<Placed>) -> PlacedItems
-        ensures { result ≡ items.items }
-    {
-        PlacedItems { items }
-    }
-
-    pub fn as_slice(&self) -> &[Placed]
-        ensures { result.now ≡ self.now }
-    {
-        &self.items
-    }
-}
-
 /// What a line is at its place.
 #[derive(Drop)]
 pub enum Entry {
@@ -67,5 +35,5 @@ pub enum Entry {
     Statement(Statement),
     /// The items begin.
     Schedule,
-    Items(PlacedItems),
+    Items(Items<Placed>),
 }

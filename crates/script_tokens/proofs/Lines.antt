@@ -11,11 +11,12 @@ use Rattle.script_tokens.specs.declared.token.Token.{Token}
 use Rattle.script_tokens.specs.declared.token.Token.TheVariants.{Word, Number, Text, Symbol}
 use Rattle.script_tokens.specs.declared.fault.ParseError.{ParseError}
 use Rattle.script_tokens.specs.declared.fault.ParseError.TheVariants as errors
-use Rattle.script_tokens.specs.Words.{is_letter, is_word_byte, is_digit, gap, begins_digit, ends_value}
-use Rattle.script_tokens.specs.Gives.{◌>>=◌, Fails}
+use Rattle.script_tokens.specs.Words.{is_letter, is_word_byte, is_digit, is_boundary, begins_digit, ends_value}
+use Rattle.script_tokens.specs.Gives.{Fails}
+use Rattle.row_base.specs.Readings.{◌>>=◌}
 use Rattle.script_tokens.specs.Quoted.{body, plain}
 use Rattle.script_tokens.specs.Tokens.{begins_letter, IsWord, IsDigits, symbol_text, is_sign, is_minus, SpellsToken, word, number, negative, text, symbol, SpellsTokens, nothing, space, token, SpellsLine}
-use Rattle.script_tokens.specs.Reading.{Taken, word_of, word_at, unsigned_value, negative_value, number_of, number_at, negative_at, text_at, symbol_at, mark_at, token_at, put, lex, line_tokens, starts_space}
+use Rattle.script_tokens.specs.Reading.{Taken, word_of, word_at, unsigned_value, negative_value, number_of, number_at, negative_at, text_at, symbol_at, symbol_token_at, token_at, put, lex, line_tokens, starts_space}
 use Rattle.script_tokens.proofs.Runs.{some_is, bind_some, cond_some, guarded, and_true, runs, run_is_run, begins_run, first_of_run, gap_no_word, gap_no_digit, letter_no_space, digit_no_space, digit_no_letter}
 use Rattle.script_tokens.proofs.Texts.{inside_again, passed, gap_no_quote}
 use Rattle.script_tokens.proofs.Symbols.{symbol_again, symbol_starts, symbol_is, is_minus_starts}
@@ -72,10 +73,10 @@ cond_false true x y h = absurd cc
 at_most : (m n : ℕ) → m ≤ n → nat_le m n ≡ true
 at_most m n h = grind (arith, nat_tests)
 
-word_of_is : (n : ℕ) (w rest : List ℕ) → n ≡ length w → n ≤ 64 → gap rest ≡ true → word_of n (w ++ rest) ≡ Some (Word w, rest)
+word_of_is : (n : ℕ) (w rest : List ℕ) → n ≡ length w → n ≤ 64 → is_boundary rest ≡ true → word_of n (w ++ rest) ≡ Some (Word w, rest)
 word_of_is n w rest e le g = rw (at_most n 64 le, drop_at w rest n (sym e), take_at w rest n (sym e), g) refl
 
-word_again : (value : Bool) (w rest : List ℕ) → IsWord w → gap rest ≡ true → Again value (Word w) w rest
+word_again : (value : Bool) (w rest : List ℕ) → IsWord w → is_boundary rest ≡ true → Again value (Word w) w rest
 unfolding token_at word_at
 word_again value [] rest h g = absurd (let k = h.0 in cc)
 word_again value (b ∷ w) rest h g =
@@ -86,7 +87,7 @@ word_again value (b ∷ w) rest h g =
       at = cond_true (is_letter b) (word_at (b ∷ (w ++ rest))) _ h.0 ∙ ap (λ (k : ℕ). word_of k (b ∷ (w ++ rest))) n ∙ word_of_is (length (b ∷ w)) (b ∷ w) rest refl h.2 g;
     }
 
-number_of_is : (value : List ℕ → Option ℤ) (n : ℕ) (ds rest : List ℕ) (k : ℤ) → n ≡ length ds → value ds ≡ Some k → gap rest ≡ true → number_of value n (ds ++ rest) ≡ Some (Number k, rest)
+number_of_is : (value : List ℕ → Option ℤ) (n : ℕ) (ds rest : List ℕ) (k : ℤ) → n ≡ length ds → value ds ≡ Some k → is_boundary rest ≡ true → number_of value n (ds ++ rest) ≡ Some (Number k, rest)
 number_of_is value n ds rest k e v g = rw (drop_at ds rest n (sym e), take_at ds rest n (sym e), g, v) refl
 
 unsigned_is : (ds : List ℕ) → digits_value 10 ds < 2 ^ 63 → unsigned_value ds ≡ Some (pos (digits_value 10 ds))
@@ -97,7 +98,7 @@ negative_is : (ds : List ℕ) → digits_value 10 ds ≤ 2 ^ 63 → negative_val
 unfolding negative_value
 negative_is ds le = rw (at_most (digits_value 10 ds) (2 ^ 63) le) refl
 
-number_again : (value : Bool) (ds rest : List ℕ) → IsDigits ds → digits_value 10 ds < 2 ^ 63 → gap rest ≡ true → Again value (Number (pos (digits_value 10 ds))) ds rest
+number_again : (value : Bool) (ds rest : List ℕ) → IsDigits ds → digits_value 10 ds < 2 ^ 63 → is_boundary rest ≡ true → Again value (Number (pos (digits_value 10 ds))) ds rest
 unfolding token_at number_at
 number_again value [] rest h lt g = absurd (omega (arith, h.0))
 number_again value (d ∷ ds) rest h lt g =
@@ -115,19 +116,19 @@ begins_with : (ds rest : List ℕ) → IsDigits ds → begins_digit (ds ++ rest)
 begins_with [] rest h = absurd (omega (arith, h.0))
 begins_with (d ∷ ds) rest h = first_of_run is_digit d ds h.1
 
-negative_again : (ds rest : List ℕ) → IsDigits ds → digits_value 10 ds ≤ 2 ^ 63 → gap rest ≡ true → Again false (Number (neg_ℤ (pos (digits_value 10 ds)))) (45 ∷ ds) rest
+negative_again : (ds rest : List ℕ) → IsDigits ds → digits_value 10 ds ≤ 2 ^ 63 → is_boundary rest ≡ true → Again false (Number (neg_ℤ (pos (digits_value 10 ds)))) (45 ∷ ds) rest
 unfolding token_at negative_at
 negative_again ds rest h le g =
     let n : prefix_len is_digit (ds ++ rest) ≡ length ds = runs is_digit ds rest h.1 (gap_no_digit rest g) in
     record {
       some = omega arith;
       no_space = refl;
-      at = cond_true (begins_digit (ds ++ rest)) (negative_at (ds ++ rest)) (mark_at (45 ∷ (ds ++ rest))) (begins_with ds rest h)
+      at = cond_true (begins_digit (ds ++ rest)) (negative_at (ds ++ rest)) (symbol_token_at (45 ∷ (ds ++ rest))) (begins_with ds rest h)
           ∙ ap (λ (k : ℕ). number_of negative_value k (ds ++ rest)) n
           ∙ number_of_is negative_value (length ds) ds rest (neg_ℤ (pos (digits_value 10 ds))) refl (negative_is ds le) g;
     }
 
-text_read : (t inner rest : List ℕ) → body plain (inner ++ 39 ∷ rest) ≡ Some (t, rest) → gap rest ≡ true → text_at ((inner ++ 39 ∷ []) ++ rest) ≡ Some (Text t, rest)
+text_read : (t inner rest : List ℕ) → body plain (inner ++ 39 ∷ rest) ≡ Some (t, rest) → is_boundary rest ≡ true → text_at ((inner ++ 39 ∷ []) ++ rest) ≡ Some (Text t, rest)
 unfolding text_at
 text_read t inner rest b g = rw (append_assoc inner (39 ∷ []) rest, b, g) refl
 
@@ -179,8 +180,8 @@ run_at p b bs h = record { is_run = run_is_run p (b ∷ bs); long = length-prefi
 
 front_word_of : (value : Bool) (b : ℕ) (bs : List ℕ) (n : ℕ) (x : Taken) → is_letter b ≡ true → Run is_word_byte (b ∷ bs) n → word_of n (b ∷ bs) ≡ Some x → Front value (b ∷ bs) x.0 x.1
 front_word_of value b bs n x l r h =
-    let k = guarded (nat_le n 64 && gap (drop n (b ∷ bs))) (Some (Word (take n (b ∷ bs)), drop n (b ∷ bs))) x h in
-    let j = and_true (nat_le n 64) (gap (drop n (b ∷ bs))) k.0 in
+    let k = guarded (nat_le n 64 && is_boundary (drop n (b ∷ bs))) (Some (Word (take n (b ∷ bs)), drop n (b ∷ bs))) x h in
+    let j = and_true (nat_le n 64) (is_boundary (drop n (b ∷ bs))) k.0 in
     subst (λ (y : Taken). Front value (b ∷ bs) y.0 y.1) (some_is (Word (take n (b ∷ bs)), drop n (b ∷ bs)) x k.1) (record {
       front = take n (b ∷ bs);
       some = omega (arith, r.long, r.some);
@@ -201,12 +202,12 @@ record Digits (value : List ℕ → Option ℤ) (bs : List ℕ) (x : Taken) : Ty
   are : IsDigits digits
   given : value digits ≡ Some number_is
   parts : bs ≡ digits ++ x.1
-  ends : gap x.1 ≡ true
+  ends : is_boundary x.1 ≡ true
   token_is : x.0 ≡ Number number_is
 
 digits_of : (value : List ℕ → Option ℤ) (bs : List ℕ) (n : ℕ) (x : Taken) → Run is_digit bs n → number_of value n bs ≡ Some x → Digits value bs x
 digits_of value bs n x r h =
-    let k = guarded (gap (drop n bs)) (value (take n bs) >>= λ m. Some (Number m, drop n bs)) x h in
+    let k = guarded (is_boundary (drop n bs)) (value (take n bs) >>= λ m. Some (Number m, drop n bs)) x h in
     let a = bind_some (value (take n bs)) (λ m. Some (Number m, drop n bs)) x k.1 in
     subst (λ (y : Taken). Digits value bs y) (some_is (Number a.0, drop n bs) x a.2) (record {
       digits = take n bs;
@@ -265,8 +266,8 @@ signed_front true bs x s h = absurd cc
 front_text : (value : Bool) (bs : List ℕ) (x : Taken) → text_at bs ≡ Some x → Front value (39 ∷ bs) x.0 x.1
 unfolding text_at
 front_text value bs x h =
-    let a = bind_some (body plain bs) (λ y. cond (gap y.1) (Some (Text y.0, y.1)) None) x h in
-    let k = guarded (gap a.0.1) (Some (Text a.0.0, a.0.1)) x a.2 in
+    let a = bind_some (body plain bs) (λ y. cond (is_boundary y.1) (Some (Text y.0, y.1)) None) x h in
+    let k = guarded (is_boundary a.0.1) (Some (Text a.0.0, a.0.1)) x a.2 in
     let i = passed plain bs a.0 a.1 in
     subst (λ (y : Taken). Front value (39 ∷ bs) y.0 y.1) (some_is (Text a.0.0, a.0.1) x k.1) (record {
       front = 39 ∷ (i.inner ++ 39 ∷ []);
@@ -279,7 +280,7 @@ no_sign : (m s : Bool) → (m ≡ true → s ≡ false) → (m && s) ≡ false
 no_sign false s h = refl
 no_sign true s h = h refl
 
-front_mark : (value : Bool) (b : ℕ) (bs : List ℕ) (x : Taken) → (b == 45 && is_sign value bs) ≡ false → mark_at (b ∷ bs) ≡ Some x → Front value (b ∷ bs) x.0 x.1
+front_mark : (value : Bool) (b : ℕ) (bs : List ℕ) (x : Taken) → (b == 45 && is_sign value bs) ≡ false → symbol_token_at (b ∷ bs) ≡ Some x → Front value (b ∷ bs) x.0 x.1
 front_mark value b bs x m h =
     let a = bind_some (symbol_at (b ∷ bs)) (λ y. Some (Symbol y.0, y.1)) x h in
     let l = symbol_is (b ∷ bs) a.0 a.1 in
@@ -304,7 +305,7 @@ front value (b ∷ bs) x h =
         | inl k ↦ front_number value b bs x k.0 k.1
         | inr h ↦ elim (cond_some (b == 39) (text_at bs) _ x h.1) [
           | inl k ↦ subst (λ (c : ℕ). Front value (c ∷ bs) x.0 x.1) (sym (eqb-true _ _ k.0)) (front_text value bs x k.1)
-          | inr h ↦ elim (cond_some (b == 45 && is_sign value bs) (negative_at bs) (mark_at (b ∷ bs)) x h.1) [
+          | inr h ↦ elim (cond_some (b == 45 && is_sign value bs) (negative_at bs) (symbol_token_at (b ∷ bs)) x h.1) [
             | inl k ↦
                 let s = and_true (b == 45) (is_sign value bs) k.0 in
                 subst (λ (c : ℕ). Front value (c ∷ bs) x.0 x.1) (sym (eqb-true _ _ s.0)) (signed_front value bs x s.1 k.1)

@@ -10,8 +10,8 @@ use Rattle.std.proofs.lemmas.Str.Parse.{IsNumeralModel, numerals_by_value, tells
 use Rattle.std.proofs.lemmas.Bool.Decides.{nat_tests}
 use Rattle.std.proofs.lemmas.List.Folds.{length-prefix_len}
 use Rattle.script_tokens.specs.declared.token.Token.TheVariants.{Number}
-use Rattle.script_tokens.specs.Words.{is_digit, gap}
-use Rattle.script_tokens.specs.Gives.{◌>>=◌}
+use Rattle.script_tokens.specs.Words.{is_digit, is_boundary}
+use Rattle.row_base.specs.Readings.{◌>>=◌}
 use Rattle.script_tokens.specs.Reading.{Taken, unsigned_value, negative_value, number_at, negative_at}
 use Rattle.script_tokens.proofs.Runs.{run_is_run, run_of_digits, one_add}
 
@@ -79,19 +79,19 @@ as_long bs front f = rw f (length-prefix_len is_digit bs)
 abbrev taken : Option ℤ → List ℕ → Option Taken
 taken o rest = o >>= λ k. Some (Number k, rest)
 
-pub number_gives : (bs front rest : List ℕ) (o : Option ℤ) → front ≡ take (prefix_len is_digit bs) bs → rest ≡ drop (prefix_len is_digit bs) bs → gap rest ≡ true → 0 < prefix_len is_digit bs → (all_ascii_digits front ≡ true → 0 < length front → o ≡ unsigned_value front) → number_at bs ≡ taken o rest
+pub number_gives : (bs front rest : List ℕ) (o : Option ℤ) → front ≡ take (prefix_len is_digit bs) bs → rest ≡ drop (prefix_len is_digit bs) bs → is_boundary rest ≡ true → 0 < prefix_len is_digit bs → (all_ascii_digits front ≡ true → 0 < length front → o ≡ unsigned_value front) → number_at bs ≡ taken o rest
 unfolding number_at
 number_gives bs front rest o f r g some h =
     let e : o ≡ unsigned_value front = h (some_digits bs front f) (omega (arith, as_long bs front f)) in
     rw (← f, ← r, g) (ap (λ (u : Option ℤ). taken u rest) (sym e))
 
-pub negative_gives : (bs front text rest : List ℕ) (o : Option ℤ) → front ≡ take (prefix_len is_digit bs) bs → rest ≡ drop (prefix_len is_digit bs) bs → text ≡ 45 ∷ front → gap rest ≡ true → 0 < prefix_len is_digit bs → ((ds : List ℕ) → text ≡ 45 ∷ ds → all_ascii_digits ds ≡ true → 0 < length ds → o ≡ negative_value ds) → negative_at bs ≡ taken o rest
+pub negative_gives : (bs front text rest : List ℕ) (o : Option ℤ) → front ≡ take (prefix_len is_digit bs) bs → rest ≡ drop (prefix_len is_digit bs) bs → text ≡ 45 ∷ front → is_boundary rest ≡ true → 0 < prefix_len is_digit bs → ((ds : List ℕ) → text ≡ 45 ∷ ds → all_ascii_digits ds ≡ true → 0 < length ds → o ≡ negative_value ds) → negative_at bs ≡ taken o rest
 unfolding negative_at
 negative_gives bs front text rest o f r t g some h =
     let e : o ≡ negative_value front = h front t (some_digits bs front f) (omega (arith, as_long bs front f)) in
     rw (← f, ← r, g) (ap (λ (u : Option ℤ). taken u rest) (sym e))
 
-pub signed_gives : (bytes ds behind text rest : List ℕ) (n : ℕ) (o : Option ℤ) → bytes ≡ 45 ∷ ds → behind ≡ drop 1 bytes → n ≡ prefix_len is_digit behind → text ≡ take (1 + n) bytes → rest ≡ drop (1 + n) bytes → gap rest ≡ true → 0 < prefix_len is_digit (drop 1 bytes) → ((more : List ℕ) → text ≡ 45 ∷ more → all_ascii_digits more ≡ true → 0 < length more → o ≡ negative_value more) → negative_at (drop 1 bytes) ≡ taken o rest
+pub signed_gives : (bytes ds behind text rest : List ℕ) (n : ℕ) (o : Option ℤ) → bytes ≡ 45 ∷ ds → behind ≡ drop 1 bytes → n ≡ prefix_len is_digit behind → text ≡ take (1 + n) bytes → rest ≡ drop (1 + n) bytes → is_boundary rest ≡ true → 0 < prefix_len is_digit (drop 1 bytes) → ((more : List ℕ) → text ≡ 45 ∷ more → all_ascii_digits more ≡ true → 0 < length more → o ≡ negative_value more) → negative_at (drop 1 bytes) ≡ taken o rest
 signed_gives bytes ds behind text rest n o e b m t r g some h =
     let text_is : text ≡ 45 ∷ take n ds = t ∙ ap (take (1 + n)) e ∙ ap (λ (k : ℕ). take k (45 ∷ ds)) (one_add n) in
     let rest_is : rest ≡ drop n ds = r ∙ ap (drop (1 + n)) e ∙ ap (λ (k : ℕ). drop k (45 ∷ ds)) (one_add n) in

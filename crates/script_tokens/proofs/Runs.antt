@@ -4,8 +4,8 @@ use Rattle.std.specs.Prelude.{◌==◌, ◌||◌, ◌&&◌, ◌⊎◌, not}
 use Rattle.std.specs.List.{prefix_len}
 use Rattle.std.specs.Str.{all_ascii_digits}
 use Rattle.std.proofs.lemmas.Bool.Decides.{nat_tests}
-use Rattle.script_tokens.specs.Words.{is_letter, is_word_byte, is_digit, gap}
-use Rattle.script_tokens.specs.Gives.{◌>>=◌}
+use Rattle.script_tokens.specs.Words.{is_letter, is_word_byte, is_digit, is_boundary}
+use Rattle.row_base.specs.Readings.{◌>>=◌}
 
 pub some_is : {A : Type 0} (x y : A) → Some x ≡ Some y → x ≡ y
 some_is x y e = cc
@@ -71,11 +71,11 @@ gap_parts b h =
     let d = or_false (is_letter b) (is_digit b) k.0 in
     (k.0, d.1, k.1)
 
-pub gap_no_word : (bs : List ℕ) → gap bs ≡ true → prefix_len is_word_byte bs ≡ 0
+pub gap_no_word : (bs : List ℕ) → is_boundary bs ≡ true → prefix_len is_word_byte bs ≡ 0
 gap_no_word [] h = refl
 gap_no_word (b ∷ bs) h = rw (gap_parts b h).0 refl
 
-pub gap_no_digit : (bs : List ℕ) → gap bs ≡ true → prefix_len is_digit bs ≡ 0
+pub gap_no_digit : (bs : List ℕ) → is_boundary bs ≡ true → prefix_len is_digit bs ≡ 0
 gap_no_digit [] h = refl
 gap_no_digit (b ∷ bs) h = rw (gap_parts b h).1 refl
 

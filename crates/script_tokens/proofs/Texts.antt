@@ -4,8 +4,8 @@ use Rattle.std.specs.List.{prefix_len}
 use Rattle.std.specs.Prelude.{◌==◌}
 use Rattle.std.proofs.lemmas.List.{append-nil}
 use Rattle.std.proofs.lemmas.Bool.{eqb-true}
-use Rattle.script_tokens.specs.Words.{gap}
-use Rattle.script_tokens.specs.Gives.{◌>>=◌}
+use Rattle.script_tokens.specs.Words.{is_boundary}
+use Rattle.row_base.specs.Readings.{◌>>=◌}
 use Rattle.script_tokens.specs.Quoted.{body, plain, quoted, slashed, hex, low, Mode, put, is_plain, digit_of, high_of, SpellsInside, nothing, itself, two_quotes, two_backslashes, code, begins_quote}
 use Rattle.script_tokens.specs.Text.{InsideOf}
 use Rattle.script_tokens.proofs.Runs.{some_is, bind_some, cond_some, Bool_tells, one_add, or_false, not_true}
@@ -137,6 +137,6 @@ passed (low d) (b ∷ bs) x e =
     let a = bind_some (digit_of b) (λ e. put (d * 16 + e) (body plain bs)) x e in
     λ h p. longer (d * 16 + a.0) (92 ∷ 120 ∷ h ∷ b ∷ []) bs x (λ t inner k. code h b d a.0 t inner p a.1 k) (passed plain bs) a.2
 
-pub gap_no_quote : (bs : List ℕ) → gap bs ≡ true → begins_quote bs ≡ false
+pub gap_no_quote : (bs : List ℕ) → is_boundary bs ≡ true → begins_quote bs ≡ false
 gap_no_quote [] h = refl
 gap_no_quote (b ∷ bs) h = (or_false _ (b == 39) (not_true _ h)).1

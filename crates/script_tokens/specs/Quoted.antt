@@ -1,6 +1,6 @@
 -- The inside of a text in quotes.
 use Rattle.std.specs.Prelude.{◌≡◌, ℕ, ◌+◌, ◌*◌, ◌-◌, ◌<◌, Bool, true, false, List, [], ◌∷◌, Option, Some, None, if◌then◌else◌, length, ◌==◌, nat_le, ◌||◌, ◌&&◌, not}
-use Rattle.script_tokens.specs.Gives.{◌>>=◌}
+use Rattle.row_base.specs.Readings.{◌>>=◌}
 use Rattle.script_tokens.specs.declared.text.Piece.{Piece}
 use Rattle.script_tokens.specs.declared.text.Piece.TheVariants as piece
 

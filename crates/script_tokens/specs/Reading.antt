@@ -6,8 +6,8 @@ use Rattle.script_tokens.specs.declared.token.Token.{Token}
 use Rattle.script_tokens.specs.declared.token.Token.TheVariants.{Word, Number, Text, Symbol}
 use Rattle.script_tokens.specs.declared.token.Symbol.{Symbol as SymbolValue}
 use Rattle.script_tokens.specs.declared.token.Symbol.TheVariants.{Open, Close, Comma, Equal, NotEqual, Less, AtMost, Greater, AtLeast, Plus, Minus, Star, Dot}
-use Rattle.script_tokens.specs.Words.{is_letter, is_word_byte, is_digit, gap, ends_value}
-use Rattle.script_tokens.specs.Gives.{◌>>=◌}
+use Rattle.script_tokens.specs.Words.{is_letter, is_word_byte, is_digit, is_boundary, ends_value}
+use Rattle.row_base.specs.Readings.{◌>>=◌}
 use Rattle.script_tokens.specs.Quoted.{body, plain}
 use Rattle.script_tokens.specs.Tokens.{is_sign}
 
@@ -17,7 +17,7 @@ Taken = Token × List ℕ
 
 -- a word of this many bytes
 abbrev pub word_of : ℕ → List ℕ → Option Taken
-word_of n bs = if nat_le n 64 && gap (drop n bs) then Some (Word (take n bs), drop n bs) else None
+word_of n bs = if nat_le n 64 && is_boundary (drop n bs) then Some (Word (take n bs), drop n bs) else None
 
 unfoldable pub word_at : List ℕ → Option Taken
 word_at bs = word_of (prefix_len is_word_byte bs) bs
@@ -30,7 +30,7 @@ unfoldable pub negative_value : List ℕ → Option ℤ
 negative_value ds = if nat_le (digits_value 10 ds) (2 ^ 63) then Some (neg_ℤ (pos (digits_value 10 ds))) else None
 
 abbrev pub number_of : (List ℕ → Option ℤ) → ℕ → List ℕ → Option Taken
-number_of value n bs = if gap (drop n bs) then (value (take n bs) >>= λ k. Some (Number k, drop n bs)) else None
+number_of value n bs = if is_boundary (drop n bs) then (value (take n bs) >>= λ k. Some (Number k, drop n bs)) else None
 
 unfoldable pub number_at : List ℕ → Option Taken
 number_at bs = number_of unsigned_value (prefix_len is_digit bs) bs
@@ -41,7 +41,7 @@ negative_at bs = number_of negative_value (prefix_len is_digit bs) bs
 
 -- behind the opening quote
 unfoldable pub text_at : List ℕ → Option Taken
-text_at bs = body plain bs >>= λ x. (if gap x.1 then Some (Text x.0, x.1) else None)
+text_at bs = body plain bs >>= λ x. (if is_boundary x.1 then Some (Text x.0, x.1) else None)
 
 abbrev pub less_at : List ℕ → SymbolValue × List ℕ
 less_at [] = (Less, [])
@@ -59,13 +59,13 @@ unfoldable pub symbol_at : List ℕ → Option (SymbolValue × List ℕ)
 symbol_at [] = None
 symbol_at (b ∷ bs) = if b == 60 then Some (less_at bs) else (if b == 62 then Some (greater_at bs) else (single b >>= λ s. Some (s, bs)))
 
-abbrev pub mark_at : List ℕ → Option Taken
-mark_at bs = symbol_at bs >>= λ x. Some (Symbol x.0, x.1)
+abbrev pub symbol_token_at : List ℕ → Option Taken
+symbol_token_at bs = symbol_at bs >>= λ x. Some (Symbol x.0, x.1)
 
 -- the token at the front; the first argument says whether a value stands before it
 unfoldable pub token_at : Bool → List ℕ → Option Taken
 token_at value [] = None
-token_at value (b ∷ bs) = if is_letter b then word_at (b ∷ bs) else (if is_digit b then number_at (b ∷ bs) else (if b == 39 then text_at bs else (if b == 45 && is_sign value bs then negative_at bs else mark_at (b ∷ bs))))
+token_at value (b ∷ bs) = if is_letter b then word_at (b ∷ bs) else (if is_digit b then number_at (b ∷ bs) else (if b == 39 then text_at bs else (if b == 45 && is_sign value bs then negative_at bs else symbol_token_at (b ∷ bs))))
 
 abbrev pub put : Token → Option (List Token) → Option (List Token)
 put t o = o >>= λ ts. Some (t ∷ ts)

@@ -6,7 +6,7 @@ use Rattle.script_tokens.specs.declared.token.Token.{Token}
 use Rattle.script_tokens.specs.declared.token.Token.TheVariants.{Word, Number, Text, Symbol}
 use Rattle.script_tokens.specs.declared.token.Symbol.{Symbol as SymbolValue}
 use Rattle.script_tokens.specs.declared.token.Symbol.TheVariants.{Open, Close, Comma, Equal, NotEqual, Less, AtMost, Greater, AtLeast, Plus, Minus, Star, Dot}
-use Rattle.script_tokens.specs.Words.{is_letter, is_word_byte, is_digit, gap, begins_digit, ends_value}
+use Rattle.script_tokens.specs.Words.{is_letter, is_word_byte, is_digit, is_boundary, begins_digit, ends_value}
 use Rattle.script_tokens.specs.Quoted.{SpellsInside}
 
 abbrev pub begins_letter : List ℕ → Bool
@@ -75,10 +75,10 @@ is_minus Dot = false
 
 -- The bytes, before the rest of the line, spell the token. The first argument says whether a value stands before it.
 pub data SpellsToken : Bool → Token → List ℕ → List ℕ → Type 0 where
-  word : (value : Bool) (w rest : List ℕ) → IsWord w → gap rest ≡ true → SpellsToken value (Word w) w rest
-  number : (value : Bool) (ds rest : List ℕ) → IsDigits ds → digits_value 10 ds < 2 ^ 63 → gap rest ≡ true → SpellsToken value (Number (pos (digits_value 10 ds))) ds rest
-  negative : (ds rest : List ℕ) → IsDigits ds → digits_value 10 ds ≤ 2 ^ 63 → gap rest ≡ true → SpellsToken false (Number (neg_ℤ (pos (digits_value 10 ds)))) (45 ∷ ds) rest
-  text : (value : Bool) (t inner rest : List ℕ) → SpellsInside t inner → gap rest ≡ true → SpellsToken value (Text t) (39 ∷ (inner ++ 39 ∷ [])) rest
+  word : (value : Bool) (w rest : List ℕ) → IsWord w → is_boundary rest ≡ true → SpellsToken value (Word w) w rest
+  number : (value : Bool) (ds rest : List ℕ) → IsDigits ds → digits_value 10 ds < 2 ^ 63 → is_boundary rest ≡ true → SpellsToken value (Number (pos (digits_value 10 ds))) ds rest
+  negative : (ds rest : List ℕ) → IsDigits ds → digits_value 10 ds ≤ 2 ^ 63 → is_boundary rest ≡ true → SpellsToken false (Number (neg_ℤ (pos (digits_value 10 ds)))) (45 ∷ ds) rest
+  text : (value : Bool) (t inner rest : List ℕ) → SpellsInside t inner → is_boundary rest ≡ true → SpellsToken value (Text t) (39 ∷ (inner ++ 39 ∷ [])) rest
   symbol : (value : Bool) (s : SymbolValue) (rest : List ℕ) → goes_on s rest ≡ false → (is_minus s && is_sign value rest) ≡ false → SpellsToken value (Symbol s) (symbol_text s) rest
 
 -- The bytes spell the tokens, with any spaces between them, before them and behind them.

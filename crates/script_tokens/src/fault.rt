@@ -1,7 +1,8 @@
 //! Why bytes could not be read.
 ghost use Rattle.std.specs.Prelude.{◌≡◌};
-ghost use Rattle.script_tokens.specs.declared.fault.ParseError.TheVariants.{NoMemory};
+ghost use Rattle.script_tokens.specs.declared.fault.ParseError.TheVariants as errors;
 
+use row_base::NoMemory;
 use std::alloc::{AllocError, AllocFailed};
 
 /// Why bytes or tokens could not be read.
@@ -14,7 +15,7 @@ pub enum ParseError {
 }
 
 impl From<AllocError> for ParseError {
-    ghost from_gives = { λ _ e. e ≡ NoMemory };
+    ghost from_gives = { λ _ e. e ≡ errors.NoMemory };
 
     fn from(_refused: AllocError) -> ParseError {
         ParseError::NoMemory
@@ -22,9 +23,17 @@ impl From<AllocError> for ParseError {
 }
 
 impl<T: Drop> From<AllocFailed<T>> for ParseError {
-    ghost from_gives = { λ _ e. e ≡ NoMemory };
+    ghost from_gives = { λ _ e. e ≡ errors.NoMemory };
 
     fn from(_refused: AllocFailed<T>) -> ParseError {
+        ParseError::NoMemory
+    }
+}
+
+impl From<NoMemory> for ParseError {
+    ghost from_gives = { λ _ e. e ≡ errors.NoMemory };
+
+    fn from(_refused: NoMemory) -> ParseError {
         ParseError::NoMemory
     }
 }

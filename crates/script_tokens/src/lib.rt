@@ -5,14 +5,12 @@ mod fault;
 mod line;
 mod number;
 mod symbol;
-#[cfg(test)]
-mod tests;
 mod text;
 mod token;
 mod word;
 
 pub use fault::ParseError;
-pub use line::{tokens_are_spelled, tokens_of};
+pub use line::{starts_space, tokens_are_spelled, tokens_of};
 pub use text::inside_is_spelled;
-pub use token::{Bytes, Symbol, Token};
+pub use token::{Bytes, Symbol, Token, Word};
 pub use word::{is_constant, is_letter, is_reserved, is_word_byte, word_run};

@@ -4,46 +4,47 @@ ghost use Rattle.std.specs.List.{prefix_len};
 ghost use Rattle.script_tokens.specs.Words.{begins_digit, is_word_byte};
 ghost use Rattle.script_tokens.specs.Tokens.{is_sign, SpellsLine};
 ghost use Rattle.script_tokens.specs.Gives.{Gives};
-ghost use Rattle.script_tokens.specs.Reading.{word_at, text_at, mark_at, token_at, lex, line_tokens, put_some, value_after, starts_space};
+ghost use Rattle.script_tokens.specs.Reading.{word_at, text_at, symbol_token_at, token_at, lex, line_tokens, put_some, value_after, starts_space};
 ghost use Rattle.script_tokens.specs.declared.token.Token.{Token as AToken};
 
 use crate::number::{negative, number};
 use crate::symbol::symbol;
 use crate::text::text;
 use crate::token::ends_value;
-use crate::word::{gap, is_letter, word_run};
-use crate::{Bytes, ParseError, Token};
+use crate::word::{is_boundary, is_letter, word_run};
+use crate::{ParseError, Token, Word};
 use std::alloc::Global;
 
 const WORD_LIMIT: usize = 64;
 
 /// The word at the front.
 #[tactic(auto, unfolding(crate::specs::Reading::word_at))]
-fn word(alloc: Global, bytes: &[u8]) -> Result<(Token, &[u8]), ParseError>
+fn word(bytes: &[u8]) -> Result<(Token<'_>, &[u8]), ParseError>
     ensures { Gives (λ x. (x.0, x.1.now)) result (word_at bytes.now) }
 {
     let len = word_run(bytes);
     let (word, rest) = bytes.split_at(len);
-    if len > WORD_LIMIT || !gap(rest) {
+    if len > WORD_LIMIT || !is_boundary(rest) {
         return Err(ParseError::Form);
     }
-    Ok((Token::Word(Bytes::from_slice(alloc, word)?), rest))
+    Ok((Token::Word(Word::new(word)), rest))
 }
 
 /// The text behind an opening quote.
 #[tactic(auto, unfolding(crate::specs::Reading::text_at))]
-fn quoted(alloc: Global, bytes: &[u8]) -> Result<(Token, &[u8]), ParseError>
+fn quoted(alloc: Global, bytes: &[u8]) -> Result<(Token<'_>, &[u8]), ParseError>
     ensures { Gives (λ x. (x.0, x.1.now)) result (text_at bytes.now) }
 {
     let (text, rest) = text(alloc, bytes)?;
-    if !gap(rest) {
+    if !is_boundary(rest) {
         return Err(ParseError::Form);
     }
     Ok((Token::Text(text), rest))
 }
 
-fn mark(bytes: &[u8]) -> Result<(Token, &[u8]), ParseError>
-    ensures { Gives (λ x. (x.0, x.1.now)) result (mark_at bytes.now) }
+/// The symbol at the front as a token.
+fn symbol_token(bytes: &[u8]) -> Result<(Token<'_>, &[u8]), ParseError>
+    ensures { Gives (λ x. (x.0, x.1.now)) result (symbol_token_at bytes.now) }
 {
     match symbol(bytes) {
         Some((symbol, rest)) => Ok((Token::Symbol(symbol), rest)),
@@ -62,14 +63,14 @@ fn is_sign(value: bool, behind: &[u8]) -> bool
 
 /// The token at the front, and what follows it. `value` says whether a value stands before it.
 #[tactic(auto, unfolding(crate::specs::Reading::token_at))]
-fn token(alloc: Global, value: bool, bytes: &[u8]) -> Result<(Token, &[u8]), ParseError>
+fn token(alloc: Global, value: bool, bytes: &[u8]) -> Result<(Token<'_>, &[u8]), ParseError>
     ensures { Gives (λ x. (x.0, x.1.now)) result (token_at value bytes.now) }
 {
     match bytes {
         [] => Err(ParseError::Form),
         [first, rest @ ..] => {
             if is_letter(*first) {
-                word(alloc, bytes)
+                word(bytes)
             } else if first.is_ascii_digit() {
                 number(bytes)
             } else if *first == b'\'' {
@@ -77,13 +78,14 @@ fn token(alloc: Global, value: bool, bytes: &[u8]) -> Result<(Token, &[u8]), Par
             } else if *first == b'-' && is_sign(value, rest) {
                 negative(bytes)
             } else {
-                mark(bytes)
+                symbol_token(bytes)
             }
         }
     }
 }
 
-fn starts_space(bytes: &[u8]) -> bool
+/// Whether a space stands at the front.
+pub fn starts_space(bytes: &[u8]) -> bool
     ensures { result ≡ starts_space bytes.now }
 {
     match bytes {
@@ -93,7 +95,7 @@ fn starts_space(bytes: &[u8]) -> bool
 }
 
 /// One step: a space, or a token.
-fn next(alloc: Global, value: bool, bytes: &[u8]) -> Result<(Option<Token>, &[u8]), ParseError>
+fn next(alloc: Global, value: bool, bytes: &[u8]) -> Result<(Option<Token<'_>>, &[u8]), ParseError>
     requires { 0 < length bytes.now }
     ensures ok { IfOk result (λ x. lex value 0 bytes.now ≡ put_some x.0 (lex (value_after value x.0) 0 x.1.now)) }
     ensures less { IfOk result (λ x. length x.1.now < length bytes.now) }
@@ -110,7 +112,7 @@ fn next(alloc: Global, value: bool, bytes: &[u8]) -> Result<(Option<Token>, &[u8
 }
 
 /// The tokens that the line spells. The error `Form` comes where it spells none.
-pub fn tokens_of(alloc: Global, line: &[u8]) -> Result<Vec<Token>, ParseError>
+pub fn tokens_of(alloc: Global, line: &[u8]) -> Result<Vec<Token<'_>>, ParseError>
     ensures { Gives (λ v. v.items) result (line_tokens line.now) }
 {
     let mut all = Vec::new(alloc);

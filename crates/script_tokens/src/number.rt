@@ -6,7 +6,7 @@ ghost use Rattle.script_tokens.specs.Words.{is_digit};
 ghost use Rattle.script_tokens.specs.Gives.{Gives};
 ghost use Rattle.script_tokens.specs.Reading.{unsigned_value, negative_value, number_at, negative_at};
 
-use crate::word::gap;
+use crate::word::is_boundary;
 use crate::{ParseError, Token};
 
 fn digit_run(bytes: &[u8]) -> usize
@@ -32,12 +32,12 @@ fn value_of(text: &[u8]) -> Option<i64>
 
 /// The number whose digits stand at the front.
 #[tactic(auto, unfolding(crate::specs::Reading::number_at))]
-pub fn number(bytes: &[u8]) -> Result<(Token, &[u8]), ParseError>
+pub fn number(bytes: &[u8]) -> Result<(Token<'_>, &[u8]), ParseError>
     requires { 0 < prefix_len is_digit bytes.now }
     ensures { Gives (λ x. (x.0, x.1.now)) result (number_at bytes.now) }
 {
     let (digits, rest) = bytes.split_at(digit_run(bytes));
-    if !gap(rest) {
+    if !is_boundary(rest) {
         return Err(ParseError::Form);
     }
     match value_of(digits) {
@@ -56,13 +56,13 @@ fn behind_sign(bytes: &[u8]) -> &[u8]
 
 /// The number whose sign and digits stand at the front.
 #[tactic(auto, unfolding(crate::specs::Reading::negative_at))]
-pub fn negative(bytes: &[u8]) -> Result<(Token, &[u8]), ParseError>
+pub fn negative(bytes: &[u8]) -> Result<(Token<'_>, &[u8]), ParseError>
     requires sign { (ds : List ℕ) × (bytes.now ≡ 45 ∷ ds) }
     requires some { 0 < prefix_len is_digit (drop 1 bytes.now) }
     ensures { Gives (λ x. (x.0, x.1.now)) result (negative_at (drop 1 bytes.now)) }
 {
     let (text, rest) = bytes.split_at(1 + digit_run(behind_sign(bytes)));
-    if !gap(rest) {
+    if !is_boundary(rest) {
         return Err(ParseError::Form);
     }
     match value_of(text) {

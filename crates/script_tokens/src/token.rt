@@ -1,12 +1,11 @@
 //! Tokens.
-ghost use Rattle.std.specs.Prelude.{◌≡◌, IfOk};
+ghost use Rattle.std.specs.Prelude.{◌≡◌};
 ghost use Rattle.script_tokens.specs.Words.{ends_value};
 
 use crate::word::{is_constant, is_reserved};
-use std::alloc::{AllocError, Global};
 use std::marker::Model;
 
-/// Bytes of their own, seen as their list.
+/// Bytes of a text, seen as their list.
 #[derive(Debug, Drop)]
 pub struct Bytes {
     bytes: Vec<u8>,
@@ -28,20 +27,41 @@ impl Bytes {
         Bytes { bytes }
     }
 
-    /// A copy of these bytes. The error is want of memory.
-    pub fn from_slice(alloc: Global, bytes: &[u8]) -> Result<Bytes, AllocError>
-        ensures { IfOk result (λ b. b ≡ bytes.now) }
+    /// The bytes.
+    pub fn as_slice(&self) -> &[u8]
+        ensures { result.now ≡ self.now }
     {
-        Ok(Bytes {
-            bytes: Vec::from_slice(alloc, bytes)?,
-        })
+        &self.bytes
+    }
+}
+
+/// The bytes of a word, where they stand in the line, seen as their list.
+#[derive(Debug, Drop)]
+pub struct Word<'a> {
+    bytes: &'a [u8],
+}
+
+impl<'a> Model for Word<'a> {
+    ghost use Rattle.std.specs.Prelude.{List, ℕ};
+
+    ghost Value = { List ℕ };
+
+    ghost view = { λ w. w.bytes.now };
+}
+
+impl<'a> Word<'a> {
+    /// The word of these bytes.
+    pub fn new(bytes: &'a [u8]) -> Word<'a>
+        ensures { result ≡ bytes.now }
+    {
+        Word { bytes }
     }
 
     /// The bytes.
     pub fn as_slice(&self) -> &[u8]
         ensures { result.now ≡ self.now }
     {
-        &self.bytes
+        self.bytes
     }
 }
 
@@ -78,9 +98,9 @@ pub enum Symbol {
 
 /// A token of a line.
 #[derive(Debug, Drop)]
-pub enum Token {
+pub enum Token<'a> {
     /// A word of the grammar, or a name.
-    Word(Bytes),
+    Word(Word<'a>),
     /// A number with its sign.
     Number(i64),
     /// A text, with its escapes undone.
@@ -90,7 +110,7 @@ pub enum Token {
 }
 
 /// Whether a `-` behind this token is the symbol, and never a number's sign.
-pub fn ends_value(token: &Token) -> bool
+pub fn ends_value(token: &Token<'_>) -> bool
     ensures { result ≡ ends_value token.now }
 {
     match token {

@@ -1,7 +1,8 @@
 //! Letters, and the words of the grammar.
 ghost use Rattle.std.specs.Prelude.{◌≡◌, ◌≤◌, length};
-ghost use Rattle.std.specs.List.{prefix_len};
-ghost use Rattle.script_tokens.specs.Words.{is_letter, is_word_byte, gap, begins_line, is_statement, is_kind, is_constant, is_connective, is_clause, is_option, is_reserved};
+ghost use Rattle.std.specs.List.{list_any, prefix_len};
+ghost use Rattle.std.specs.Str.{bytes_eq};
+ghost use Rattle.script_tokens.specs.Words.{is_letter, is_word_byte, is_boundary, is_constant, is_reserved};
 
 /// Whether a name may begin with the byte: an ASCII letter or `_`.
 pub fn is_letter(b: u8) -> bool
@@ -26,8 +27,8 @@ pub fn word_run(bytes: &[u8]) -> usize
 }
 
 /// Whether a word, a number or a text may end before these bytes.
-pub fn gap(bytes: &[u8]) -> bool
-    ensures { result ≡ gap bytes.now }
+pub fn is_boundary(bytes: &[u8]) -> bool
+    ensures { result ≡ is_boundary bytes.now }
 {
     match bytes {
         [] => true,
@@ -35,83 +36,70 @@ pub fn gap(bytes: &[u8]) -> bool
     }
 }
 
-fn begins_line(word: &[u8]) -> bool
-    ensures { result ≡ begins_line word.now }
-{
-    word == b"attempts".as_slice()
-        || word == b"open".as_slice()
-        || word == b"table".as_slice()
-        || word == b"session".as_slice()
-        || word == b"kill".as_slice()
-        || word == b"schedule".as_slice()
-        || word == b"wait".as_slice()
-}
+/// The words of the grammar: those that begin a line, then those of statements, of kinds, of literals, of predicates and
+/// of clauses.
+const RESERVED: [&[u8]; 45] = [
+    b"attempts",
+    b"open",
+    b"table",
+    b"session",
+    b"kill",
+    b"schedule",
+    b"wait",
+    b"insert",
+    b"delete",
+    b"update",
+    b"merge",
+    b"optimize",
+    b"vacuum",
+    b"alter",
+    b"select",
+    b"long",
+    b"integer",
+    b"boolean",
+    b"string",
+    b"date",
+    b"true",
+    b"false",
+    b"null",
+    b"and",
+    b"or",
+    b"not",
+    b"is",
+    b"partitioned",
+    b"by",
+    b"with",
+    b"txn",
+    b"where",
+    b"set",
+    b"key",
+    b"using",
+    b"source",
+    b"when",
+    b"matched",
+    b"then",
+    b"target",
+    b"retain",
+    b"dry",
+    b"run",
+    b"version",
+    b"timestamp",
+];
 
-fn is_statement(word: &[u8]) -> bool
-    ensures { result ≡ is_statement word.now }
-{
-    word == b"insert".as_slice()
-        || word == b"delete".as_slice()
-        || word == b"update".as_slice()
-        || word == b"merge".as_slice()
-        || word == b"optimize".as_slice()
-        || word == b"vacuum".as_slice()
-        || word == b"alter".as_slice()
-        || word == b"select".as_slice()
-}
+/// The words that are a literal by themselves.
+const CONSTANTS: [&[u8]; 3] = [b"true", b"false", b"null"];
 
-fn is_kind(word: &[u8]) -> bool
-    ensures { result ≡ is_kind word.now }
+fn is_among(word: &[u8], words: &[&[u8]]) -> bool
+    ensures { result ≡ list_any (λ w. bytes_eq word.now w.now) words.now }
 {
-    word == b"long".as_slice()
-        || word == b"integer".as_slice()
-        || word == b"boolean".as_slice()
-        || word == b"string".as_slice()
-        || word == b"date".as_slice()
+    words.iter().any(|other| word == *other)
 }
 
 /// Whether the word is a literal by itself.
 pub fn is_constant(word: &[u8]) -> bool
     ensures { result ≡ is_constant word.now }
 {
-    word == b"true".as_slice() || word == b"false".as_slice() || word == b"null".as_slice()
-}
-
-fn is_connective(word: &[u8]) -> bool
-    ensures { result ≡ is_connective word.now }
-{
-    word == b"and".as_slice()
-        || word == b"or".as_slice()
-        || word == b"not".as_slice()
-        || word == b"is".as_slice()
-}
-
-fn is_clause(word: &[u8]) -> bool
-    ensures { result ≡ is_clause word.now }
-{
-    word == b"partitioned".as_slice()
-        || word == b"by".as_slice()
-        || word == b"with".as_slice()
-        || word == b"txn".as_slice()
-        || word == b"where".as_slice()
-        || word == b"set".as_slice()
-        || word == b"key".as_slice()
-        || word == b"using".as_slice()
-        || word == b"source".as_slice()
-}
-
-fn is_option(word: &[u8]) -> bool
-    ensures { result ≡ is_option word.now }
-{
-    word == b"when".as_slice()
-        || word == b"matched".as_slice()
-        || word == b"then".as_slice()
-        || word == b"target".as_slice()
-        || word == b"retain".as_slice()
-        || word == b"dry".as_slice()
-        || word == b"run".as_slice()
-        || word == b"version".as_slice()
-        || word == b"timestamp".as_slice()
+    is_among(word, &CONSTANTS)
 }
 
 /// Whether the word is one of the grammar's own, and so no name.
@@ -119,11 +107,5 @@ fn is_option(word: &[u8]) -> bool
 pub fn is_reserved(word: &[u8]) -> bool
     ensures { result ≡ is_reserved word.now }
 {
-    begins_line(word)
-        || is_statement(word)
-        || is_kind(word)
-        || is_constant(word)
-        || is_connective(word)
-        || is_clause(word)
-        || is_option(word)
+    is_among(word, &RESERVED)
 }

@@ -5,4 +5,4 @@ use Rattle.report.specs.Literals.{escaped}
 use Rattle.report.proofs.literal.push_each_escaped.Given as goal
 
 abbrev pub invariant-loop-b : goal.invariant-loop-b
-invariant-loop-b l = l.out.items ≡ l.initial.out.items ++ flat_map escaped (take l.b-index l.text)
+invariant-loop-b l = l.out ≡ l.initial.out ++ flat_map escaped (take l.b-index l.text)

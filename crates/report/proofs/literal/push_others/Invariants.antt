@@ -5,4 +5,4 @@ use Rattle.report.specs.Literals.{behind_comma}
 use Rattle.report.proofs.literal.push_others.Given as goal
 
 abbrev pub invariant-loop-datum : goal.invariant-loop-datum
-invariant-loop-datum l = l.out.items ≡ l.initial.out.items ++ flat_map behind_comma (take l.datum-index l.others)
+invariant-loop-datum l = l.out ≡ l.initial.out ++ flat_map behind_comma (take l.datum-index l.others)

@@ -4,4 +4,4 @@ use Rattle.report.specs.Replies.{session_text}
 use Rattle.report.proofs.reply.push_session.Given as goal
 
 abbrev pub invariant-loop-i : goal.invariant-loop-i
-invariant-loop-i l = l.out.items ++ session_text l.name (l.i + 1) (drop l.i l.replies) ≡ l.initial.out.items ++ session_text l.name 1 l.replies
+invariant-loop-i l = l.out ++ session_text l.name (l.i + 1) (drop l.i l.replies) ≡ l.initial.out ++ session_text l.name 1 l.replies

@@ -4,4 +4,4 @@ use Rattle.report.specs.Replies.{sessions_text}
 use Rattle.report.proofs.reply.push_sessions.Given as goal
 
 abbrev pub invariant-loop-name : goal.invariant-loop-name
-invariant-loop-name l = l.out.items ++ sessions_text (drop l.name-index l.names) l.rest ≡ l.initial.out.items ++ sessions_text l.names l.initial.rest
+invariant-loop-name l = l.out ++ sessions_text (drop l.name-index l.names) l.rest ≡ l.initial.out ++ sessions_text l.names l.initial.rest

@@ -4,4 +4,4 @@ use Rattle.script_text.proofs.ItemLines.{is_done}
 use Rattle.script_text.proofs.items.placed_items.Goals as goal
 
 pub returns : goal.returns
-returns c = rw c.make.ensures (is_done c.args.sessions.now c.args.line.now c.loop-rest.all.items c.loop-rest.rest.now (eqb-true _ _ (sym c.loop-rest-test.ensures)) c.loop-rest.invariant)
+returns c = rw c.from_vec.ensures (is_done c.args.sessions.now c.args.line.now c.loop-rest.all.items c.loop-rest.rest.now (eqb-true _ _ (sym c.loop-rest-test.ensures)) c.loop-rest.invariant)

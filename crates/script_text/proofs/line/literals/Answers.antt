@@ -1,7 +1,6 @@
 use Rattle.std.proofs.Common.{sym}
 use Rattle.std.proofs.lemmas.Result.{err_from_is_err_and}
-use Rattle.script_grammar.specs.Shape.{read}
-use Rattle.script_grammar.specs.Shape.{a_literal}
+use Rattle.script_grammar.specs.Shape.{read, a_literal}
 use Rattle.script_grammar.proofs.Laws.{not_longer}
 use Rattle.script_grammar.proofs.Loop.{begins, goes_on, ends, ends_first, is_done, shorter}
 use Rattle.script_text.proofs.line.literals.Goals as goal
@@ -12,7 +11,7 @@ returns-in_err-first c =
     rw (p.1, p.2) (ends_first (read a_literal) (not_longer a_literal) c.in_err-first.field-0.0 c.args.tokens.now c.in_err-first.ensures)
 
 pub loop-tail-init : goal.loop-tail-init
-loop-tail-init c = rw (c.in_ok-push.ensures.items, c.new-all.ensures.items) (begins (read a_literal) (not_longer a_literal) c.args.tokens.now c.in_ok-first.first c.in_ok-first.rest.now c.in_ok-first.ensures)
+loop-tail-init c = rw (c.in_ok-push.ensures.items, c.requires) (begins (read a_literal) (not_longer a_literal) c.args.tokens.now c.in_ok-first.first c.in_ok-first.rest.now c.in_ok-first.ensures)
 
 pub returns-in_err-next : goal.returns-in_err-next
 returns-in_err-next c =

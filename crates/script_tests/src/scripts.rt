@@ -1,15 +1,14 @@
 //! Scripts and faults by hand.
-use crate::ScriptFaultKind::{Form, Header, Limit, Session, Utf8};
-use crate::{Script, ScriptFault, ScriptFaultKind, parse_script};
 use actor_core::ItemForm;
 use op_types::Statement;
 use row_base::Datum;
+use row_base::limits::MAX_SCRIPT_BYTES;
+use script_text::ScriptFaultKind::{Form, Header, Limit, Session, Utf8};
+use script_text::{Script, ScriptFault, ScriptFaultKind, parse_script};
 use std::alloc::{AllocError, Global};
 
-const LIMIT: usize = 16_777_216;
-
 fn read(alloc: Global, bytes: &[u8]) -> Result<Script, ScriptFault> {
-    if bytes.len() > LIMIT {
+    if bytes.len() > MAX_SCRIPT_BYTES {
         return Err(ScriptFault {
             line: 0,
             kind: ScriptFaultKind::NoMemory,
@@ -55,20 +54,18 @@ fn is_refused_behind(alloc: Global, lines: &[u8], line: u32, kind: ScriptFaultKi
     }
 }
 
-fn row_is(row: &[Datum], first: i64, second: i64) -> bool {
-    matches!(row, [Datum::Long(a), Datum::Long(b)] if *a == first && *b == second)
+fn row_is(row: Option<&[Datum]>, first: i64, second: i64) -> bool {
+    matches!(row, Some([Datum::Long(a), Datum::Long(b)]) if *a == first && *b == second)
 }
 
 /// Whether the statements are an insert of two rows, and a select.
 fn are_statements(statements: &[Statement]) -> bool {
     match statements {
-        [Statement::Insert { rows }, Statement::Select] => match rows.as_slice() {
-            [first, second] => {
-                row_is(first.as_slice(), 1, -2)
-                    && row_is(second.as_slice(), 7, 9_223_372_036_854_775_807)
-            }
-            _ => false,
-        },
+        [Statement::Insert { rows }, Statement::Select] => {
+            rows.len() == 2
+                && row_is(rows.get(0), 1, -2)
+                && row_is(rows.get(1), 7, 9_223_372_036_854_775_807)
+        }
         _ => false,
     }
 }

@@ -1,13 +1,14 @@
-use crate::{Refusal, Reply, SessionReplies};
+//! Copies of replies.
 use edge_api::{CallKind, Called, Name};
-use row_base::{Datum, Row, Rows};
+use op_types::{Refusal, Reply, SessionReplies};
+use row_base::{Datum, Rows};
 use std::alloc::Global;
 use std::test::Fail;
 
 /// The name in a refusal, or the number of rows, as text.
 fn told(alloc: Global, reply: &Reply) -> Result<String, Fail> {
     let text = match reply {
-        Reply::Rows { rows, .. } => format!(in alloc; "{} rows", rows.as_slice().len())?,
+        Reply::Rows { rows, .. } => format!(in alloc; "{} rows", rows.len())?,
         Reply::Refused(Refusal::Fault { call }) => {
             format!(in alloc; "fault {}", call.name.as_str())?
         }
@@ -26,13 +27,11 @@ fn replies_are_copied(rt: HostRuntime) -> Result<(), Fail> {
     let refusal = Refusal::Fault { call };
     let refused = Reply::Refused(refusal.copy()?);
     assert_eq!(rt; told(alloc, &refused.copy(alloc)?)?.as_str(), "fault data");
-    let mut data = Vec::new(alloc);
-    data.push(Datum::Long(7))?;
-    let mut rows = Vec::new(alloc);
-    rows.push(Row::make(data))?;
+    let mut rows = Rows::new(alloc);
+    rows.push_copy(&[Datum::Long(7)])?;
     let selected = Reply::Rows {
         version: 1,
-        rows: Rows::make(rows),
+        rows,
         files_read: 1,
         files_live: 1,
     };

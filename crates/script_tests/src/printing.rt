@@ -1,13 +1,14 @@
-use crate::print_replies;
+//! Printed replies by hand.
 use edge_api::{CallKind, Called, Name};
 use op_types::{
     CheckpointOutcome, Feature, LogFaultKind, ObjectFault, Refusal, Reply, SessionReplies,
 };
-use row_base::{Datum, NoMemory, Row, Rows, Text};
+use report::print_replies;
+use row_base::{Datum, NoMemory, Rows, Text};
 use std::alloc::Global;
 use std::test::Fail;
 
-// The text of one session's replies, under the name `a`.
+/// The text of one session's replies, under the name `a`.
 fn printed(alloc: Global, replies: Vec<Reply>) -> Result<Vec<u8>, NoMemory> {
     let mut made = Vec::new(alloc);
     made.push(Reply::Created)?;
@@ -19,20 +20,14 @@ fn printed(alloc: Global, replies: Vec<Reply>) -> Result<Vec<u8>, NoMemory> {
     print_replies(alloc, names.as_slice(), all.as_slice())
 }
 
-fn pair(alloc: Global, first: Datum, second: Datum) -> Result<Row, NoMemory> {
-    let mut data = Vec::new(alloc);
-    data.push(first)?;
-    data.push(second)?;
-    Ok(Row::make(data))
-}
-
-fn rows_of(first: Row, second: Row, alloc: Global) -> Result<Reply, NoMemory> {
-    let mut rows = Vec::new(alloc);
-    rows.push(first)?;
-    rows.push(second)?;
+/// The reply with these two rows.
+fn rows_of(alloc: Global, first: &[Datum], second: &[Datum]) -> Result<Reply, NoMemory> {
+    let mut rows = Rows::new(alloc);
+    rows.push_copy(first)?;
+    rows.push_copy(second)?;
     Ok(Reply::Rows {
         version: 1,
-        rows: Rows::make(rows),
+        rows,
         files_read: 1,
         files_live: 1,
     })
@@ -48,9 +43,9 @@ fn a_commit_and_rows_are_printed(rt: HostRuntime) -> Result<(), Fail> {
         attempts: 1,
         checkpoint: CheckpointOutcome::NotDue,
     })?;
-    let first = pair(alloc, Datum::Long(1), Datum::Text(Text::make(alloc, "x")?))?;
-    let second = pair(alloc, Datum::Long(2), Datum::Null)?;
-    replies.push(rows_of(first, second, alloc)?)?;
+    let first = [Datum::Long(1), Datum::Text(Text::make(alloc, "x")?)];
+    let second = [Datum::Long(2), Datum::Null];
+    replies.push(rows_of(alloc, &first, &second)?)?;
     let text = printed(alloc, replies)?;
     let wanted =
         b"table 1 created 0\na 1 committed 1 read 0 attempts 1\na 2 rows 2 version 1 files 1 of 1\n(1, 'x')\n(2, null)\n";
@@ -61,14 +56,13 @@ fn a_commit_and_rows_are_printed(rt: HostRuntime) -> Result<(), Fail> {
 #[test]
 fn data_are_printed_as_literals(rt: HostRuntime) -> Result<(), Fail> {
     let alloc = rt.alloc();
-    let first = pair(
-        alloc,
+    let first = [
         Datum::Text(Text::make(alloc, "it's \\ \n\u{7f}")?),
         Datum::Date(19782),
-    )?;
-    let second = pair(alloc, Datum::Boolean(false), Datum::Integer(-2147483648))?;
+    ];
+    let second = [Datum::Boolean(false), Datum::Integer(-2147483648)];
     let mut replies = Vec::new(alloc);
-    replies.push(rows_of(first, second, alloc)?)?;
+    replies.push(rows_of(alloc, &first, &second)?)?;
     let text = printed(alloc, replies)?;
     let wanted =
         b"table 1 created 0\na 1 rows 2 version 1 files 1 of 1\n('it''s \\\\ \\x0a\\x7f', date '2024-02-29')\n(false, -2147483648)\n";

@@ -1,5 +1,5 @@
 //! Tokens by hand.
-use crate::{Symbol, Token, tokens_of};
+use script_tokens::{Symbol, Token, tokens_of};
 use std::alloc::Global;
 
 /// Whether the line spells one token, a text with these bytes.
