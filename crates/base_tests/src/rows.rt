@@ -240,7 +240,9 @@ fn rows_are_kept_in_one_list(rt: HostRuntime) -> Result<(), Fail> {
 #[test]
 fn rows_are_cut(rt: HostRuntime) -> Result<(), Fail> {
     let rows = eight_rows(rt.alloc())?;
-    let (front, back) = rows.iter().split_at(5);
+    let all = rows.iter();
+    assert!(rt; 5 <= all.len());
+    let (front, back) = all.split_at(5);
     assert_eq!(rt; front.len(), 5);
     assert!(rt; !back.is_empty());
     assert_eq!(rt; long_of(back.get(0)), Some(1));
