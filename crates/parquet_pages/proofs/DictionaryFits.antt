@@ -6,12 +6,14 @@ use Rattle.row_base.specs.declared.row.Datum.{Datum}
 use Rattle.row_base.specs.declared.row.Datum.TheVariants as datum
 use Rattle.row_base.specs.declared.row.Kind.{Kind}
 use Rattle.row_base.specs.RowOrder.{datum_cmp}
+use Rattle.parquet_pages.specs.declared.dictionary.Indexed.{Indexed}
 use Rattle.parquet_pages.specs.Places.{is_null, present, place_of, can_place, dictionary_of}
 use Rattle.parquet_pages.specs.Written.{CanStand}
 use Rattle.parquet_pages.specs.Grammar.{Has, IsDictionaryOf, DictionariesFit}
 use Rattle.parquet_pages.proofs.Distinct.{place_of-lt}
 use Rattle.parquet_pages.proofs.Kept.{null_is, place_get}
-use Rattle.parquet_pages.proofs.FirstPlaces.{itself, has_place, pays_found}
+use Rattle.parquet_pages.proofs.Same.{itself}
+use Rattle.parquet_pages.proofs.FirstPlaces.{has_place, pays_found}
 
 -- a value at a place is among the values
 has_at : (vs : List Datum) (i : ℕ) (d : Datum) → i < length vs → Has vs (get_or vs i d)
@@ -80,12 +82,12 @@ dictionaries_fit_all k o vs dictionary e stand =
     (placed_all k o vs dictionary p.1 stand, stand_all k o vs dictionary p.1 stand, omega (arith, p.2, present_few vs))
 
 -- the same of what a call returned
-pub placed_found : (k : Kind) (vs : List Datum) (found : Option (List Datum)) → found ≡ dictionary_of k vs
-    → IfSome found (λ dictionary. (o : Bool) → All (CanStand k o) vs → All (λ v. can_place dictionary o v ≡ true) vs)
-placed_found k vs (Some dictionary) is = λ o stand. (dictionaries_fit_all k o vs dictionary (sym is) stand).0
+pub placed_found : (k : Kind) (vs : List Datum) (found : Option Indexed) → option_map (λ i. i.dictionary) found ≡ dictionary_of k vs
+    → IfSome found (λ i. (o : Bool) → All (CanStand k o) vs → All (λ v. can_place i.dictionary o v ≡ true) vs)
+placed_found k vs (Some i) is = λ o stand. (dictionaries_fit_all k o vs i.dictionary (sym is) stand).0
 placed_found k vs None is = tt
 
-pub stand_found : (k : Kind) (vs : List Datum) (found : Option (List Datum)) → found ≡ dictionary_of k vs
-    → All (CanStand k true) vs → IfSome found (λ dictionary. All (CanStand k false) dictionary)
-stand_found k vs (Some dictionary) is stand = (dictionaries_fit_all k true vs dictionary (sym is) stand).1
+pub stand_found : (k : Kind) (vs : List Datum) (found : Option Indexed) → option_map (λ i. i.dictionary) found ≡ dictionary_of k vs
+    → All (CanStand k true) vs → IfSome found (λ i. All (CanStand k false) i.dictionary)
+stand_found k vs (Some i) is stand = (dictionaries_fit_all k true vs i.dictionary (sym is) stand).1
 stand_found k vs None is stand = tt

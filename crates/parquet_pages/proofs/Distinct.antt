@@ -1,16 +1,15 @@
 -- Places of values among distinct ones.
-use Rattle.std.proofs.Common.{◌≡◌, ℕ, zero, suc, ◌+◌, ◌<◌, ◌≤◌, Bool, true, false, ◌||◌, not, drop, cond, leb, List, [], ◌∷◌, ◌++◌, length, get_or, refl, sym, ap, subst, ◌∙◌, arith, inl, inr, Option, Some, None, option_map, is_some, unwrap_or}
-use Rattle.std.proofs.lemmas.Bool.{cases_Bool, lt-leb, not-true}
-use Rattle.std.proofs.lemmas.List.{length-append, at_drop_more, drop_all, append-nil}
+use Rattle.std.proofs.Common.{◌≡◌, ℕ, zero, suc, ◌<◌, ◌≤◌, Bool, true, false, ◌||◌, cond, List, [], ◌∷◌, ◌++◌, length, get_or, refl, arith, inl, inr, Option, Some, None, option_map, is_some, unwrap_or}
+use Rattle.std.proofs.lemmas.Bool.{cases_Bool}
+use Rattle.std.proofs.lemmas.List.{length-append}
 use Rattle.std.specs.Cmp.{Equal-is}
 use Rattle.std.specs.List.{All}
 use Rattle.std.specs.Ordering.{is_eq}
-use Rattle.bit_pack.specs.Bits.{most_values}
 use Rattle.row_base.specs.declared.row.Datum.{Datum}
 use Rattle.row_base.specs.RowOrder.{datum_cmp}
 use Rattle.row_base.proofs.RowOrder.{datum_apart}
 use Rattle.parquet_pages.proofs.Chains.{map_some}
-use Rattle.parquet_pages.specs.Places.{is_null, place_of, place_in, IsIndexed, with_value, distinct_after, places_of, can_place}
+use Rattle.parquet_pages.specs.Places.{is_null, place_of, with_value, distinct_after, places_of, can_place}
 
 -- equal by the order is equal
 pub same_datum : (v q : Datum) → is_eq (datum_cmp v q) ≡ true → v ≡ q
@@ -40,30 +39,6 @@ place_of-push (w ∷ found) v q = elim (cases_Bool (is_eq (datum_cmp w q))) [
     further None true n = refl
     further None false n = refl
 
--- a new value is none of those before it
-or_new : (found : List Datum) (v q : Datum) (b : Bool) → is_eq (datum_cmp v q) ≡ b → place_of found v ≡ None
-    → or_last (place_of found q) (cond b (Some (length found)) None) ≡ cond b (Some (length found)) (place_of found q)
-unfolding or_last
-or_new found v q true e none =
-    let same = same_datum v q e in
-    let here : place_of found q ≡ None = ap (place_of found) (sym same) ∙ none in
-    rw here refl
-or_new found v q false e none = at_none (place_of found q)
-  where
-    at_none : (o : Option ℕ) → or_last o None ≡ o
-    at_none (Some k) = refl
-    at_none None = refl
-
--- a map with one more place
-pub indexed_push : (found : List Datum) (old new : List (Datum × ℕ)) (v : Datum) → IsIndexed found old → length found < most_values → place_of found v ≡ None
-    → ((q : Datum) → place_in new q ≡ cond (is_eq (datum_cmp v q)) (Some (length found)) (place_in old q)) → IsIndexed (found ++ v ∷ []) new
-unfolding last_place
-indexed_push found old new v indexed room none put = record {
-  few = omega (arith, room, length-append found (v ∷ []));
-  found = λ q. put q ∙ ap (cond (is_eq (datum_cmp v q)) (Some (length found))) (indexed.found q)
-      ∙ sym (place_of-push found v q ∙ or_new found v q (is_eq (datum_cmp v q)) refl none);
-}
-
 -- a place is within the list
 pub place_of-lt : (found : List Datum) (v : Datum) (k : ℕ) → place_of found v ≡ Some k → k < length found
 place_of-lt [] v k e = absurd cc
@@ -87,35 +62,6 @@ longer found (v ∷ vs) = omega (arith, longer (with_value found v) vs, one_long
         by_test : (b : Bool) (found : List Datum) (v : Datum) → length found ≤ length (cond b found (found ++ v ∷ []))
         by_test true found v = omega arith
         by_test false found v = omega (arith, length-append found (v ∷ []))
-
--- the next value of a list is found before the rest
-next_distinct : (found values : List Datum) (i : ℕ) (v : Datum) → i < length values → v ≡ get_or values i v
-    → distinct_after found (drop i values) ≡ distinct_after (with_value found v) (drop (i + 1) values)
-next_distinct found values i v lt here = at_drop_more (distinct_after found) values i v lt ∙ ap (λ d. distinct_after (with_value found d) (drop (i + 1) values)) (sym here)
-
--- a value more than so many: there are too many
-pub too_many : (found values : List Datum) (entries : List (Datum × ℕ)) (i most : ℕ) (v : Datum) → IsIndexed found entries
-    → distinct_after found (drop i values) ≡ distinct_after [] values → i < length values → v ≡ get_or values i v
-    → not (is_null v || is_some (place_in entries v)) ≡ true → length found ≡ most
-    → leb (length (distinct_after [] values)) most ≡ false
-too_many found values entries i most v indexed rest lt here fresh full =
-    let test : is_null v || is_some (place_of found v) ≡ false = ap (λ o. is_null v || is_some o) (sym (indexed.found v)) ∙ not-true (is_null v || is_some (place_in entries v)) fresh in
-    let with_it : with_value found v ≡ found ++ v ∷ [] = rw test refl in
-    let all : distinct_after [] values ≡ distinct_after (found ++ v ∷ []) (drop (i + 1) values)
-    = sym rest ∙ next_distinct found values i v lt here ∙ ap (λ f. distinct_after f (drop (i + 1) values)) with_it in
-    let more : length found + 1 ≤ length (distinct_after [] values)
-    = omega (arith, ap length all, longer (found ++ v ∷ []) (drop (i + 1) values), length-append found (v ∷ [])) in
-    lt-leb (length (distinct_after [] values)) most (omega (arith, more, full))
-
--- the same, as it comes of two copies of the value
-pub indexed_added : (found after : List Datum) (old new : List (Datum × ℕ)) (v key last : Datum) (place : ℕ) → IsIndexed found old → length found < most_values
-    → place_of found v ≡ None → key ≡ v → last ≡ v → place ≡ length found → after ≡ found ++ last ∷ []
-    → ((q : Datum) → place_in new q ≡ cond (is_eq (datum_cmp key q)) (Some place) (place_in old q)) → IsIndexed after new
-indexed_added found after old new v key last place indexed room none same_key same_last here pushed put =
-    let push : after ≡ found ++ v ∷ [] = pushed ∙ ap (λ d. found ++ d ∷ []) same_last in
-    subst (λ vs. IsIndexed vs new) (sym push) (indexed_push found old new v indexed room none
-    (λ q. put q ∙ ap (λ d. cond (is_eq (datum_cmp d q)) (Some place) (place_in old q)) same_key
-    ∙ ap (λ n. cond (is_eq (datum_cmp v q)) (Some n) (place_in old q)) here))
 
 -- ---- places of values
 
@@ -147,9 +93,3 @@ places_within dictionary optional [] all k lt = absurd (omega (arith, lt))
 places_within dictionary optional (v ∷ vs) all k lt =
     below_more (is_null v) (place_of dictionary v) optional (length dictionary) (places_of dictionary vs) (all 0 v (omega arith))
     (λ p e. place_of-lt dictionary v p e) (places_within dictionary optional vs (λ i d le. all (suc i) d (omega (arith, le)))) k lt
-
--- behind the last value no place is left
-pub all_found : (dictionary values : List Datum) (found : List ℕ) (i : ℕ) → found ++ places_of dictionary (drop i values) ≡ places_of dictionary values
-    → length values ≤ i → found ≡ places_of dictionary values
-all_found dictionary values found i so_far end =
-    sym (append-nil found) ∙ ap (λ (vs : List Datum). found ++ places_of dictionary vs) (sym (drop_all i values end)) ∙ so_far

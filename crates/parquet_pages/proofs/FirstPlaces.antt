@@ -2,21 +2,16 @@
 use Rattle.std.proofs.Common.{◌≡◌, ◌⊎◌, ℕ, zero, suc, ◌*◌, ◌<◌, ◌≤◌, Bool, true, false, ◌||◌, cond, List, [], ◌∷◌, ◌++◌, length, refl, sym, ap, subst, ◌∙◌, arith, inl, inr, append_assoc, Option, Some, None, is_some}
 use Rattle.std.specs.List.{slice_get}
 use Rattle.std.specs.Ordering.{is_eq}
-use Rattle.std.specs.Cmp.{Equal-is}
-use Rattle.std.proofs.lemmas.Cmp.{tied_itself}
 use Rattle.std.proofs.lemmas.Bool.{cases_Bool, or_cases, or_parts, leb-true, leb-false}
 use Rattle.std.proofs.lemmas.List.{append-nil}
 use Rattle.row_base.specs.declared.row.Datum.{Datum}
 use Rattle.row_base.specs.declared.row.Kind.{Kind}
 use Rattle.row_base.specs.RowOrder.{datum_cmp}
-use Rattle.row_base.specs.RowOrderLaws.{datum_cmp_total}
 use Rattle.parquet_pages.specs.Places.{is_null, present, place_of, with_value, distinct_after, is_boolean, pays, dictionary_of}
 use Rattle.parquet_pages.specs.Grammar.{Has, IsDictionaryOf}
 use Rattle.parquet_pages.proofs.Chains.{inside, test_some}
+use Rattle.parquet_pages.proofs.Same.{itself}
 use Rattle.parquet_pages.proofs.Distinct.{same_datum, place_of-push, last_place, or_last, place_of-lt}
-
-pub itself : (v : Datum) → is_eq (datum_cmp v v) ≡ true
-itself v = (Equal-is (datum_cmp v v)).1 (tied_itself datum_cmp_total v)
 
 -- a place is there, or it isn't
 place_cases : (o : Option ℕ) → ((k : ℕ) × (o ≡ Some k)) ⊎ (o ≡ None)
@@ -34,7 +29,7 @@ has_place vs q h = by_place (place_of vs q) h
     by_place None e = absurd cc
 
 -- one value more: what was there stays at its place
-push_old : (vs : List Datum) (v q : Datum) (k : ℕ) → place_of vs q ≡ Some k → place_of (vs ++ v ∷ []) q ≡ Some k
+pub push_old : (vs : List Datum) (v q : Datum) (k : ℕ) → place_of vs q ≡ Some k → place_of (vs ++ v ∷ []) q ≡ Some k
 unfolding or_last
 push_old vs v q k e = place_of-push vs v q ∙ (rw e refl)
 
@@ -42,7 +37,7 @@ push_new : (vs : List Datum) (v q : Datum) → place_of vs q ≡ None → place_
 unfolding or_last
 push_new vs v q e = place_of-push vs v q ∙ (rw e refl)
 
-push_itself : (vs : List Datum) (v : Datum) → place_of vs v ≡ None → place_of (vs ++ v ∷ []) v ≡ Some (length vs)
+pub push_itself : (vs : List Datum) (v : Datum) → place_of vs v ≡ None → place_of (vs ++ v ∷ []) v ≡ Some (length vs)
 unfolding last_place
 push_itself vs v e = push_new vs v v e ∙ (rw (itself v) refl)
 

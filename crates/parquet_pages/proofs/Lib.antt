@@ -4,7 +4,7 @@ pub mod Pieces
 pub mod Texts
 pub mod InLine
 pub mod Bits
-pub mod DatumOrder
+pub mod Same
 pub mod Distinct
 pub mod Widths
 pub mod PackedBytes
@@ -14,5 +14,6 @@ pub mod Kept
 pub mod PlainBack
 pub mod Returning
 pub mod FirstPlaces
+pub mod SetSteps
 pub mod DictionaryFits
 pub mod NullsFound

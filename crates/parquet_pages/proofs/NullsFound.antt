@@ -7,7 +7,7 @@ use Rattle.row_base.specs.declared.row.Kind.{Kind}
 use Rattle.row_base.specs.declared.row.Kind.TheVariants as kind
 use Rattle.parquet_meta.specs.declared.head.DataPageHead.{DataPageHead}
 use Rattle.parquet_meta.specs.declared.head.PageAt.{PageAt}
-use Rattle.parquet_meta.specs.Faults.{◌>>=◌}
+use Rattle.row_base.specs.Faults.{◌>>=◌}
 use Rattle.parquet_pages.specs.Gives.{or_page}
 use Rattle.parquet_pages.specs.Plain.{boolean_of}
 use Rattle.parquet_pages.specs.Levels.{levels_in, there, has_null, spread}

@@ -11,7 +11,7 @@ use Rattle.parquet_meta.specs.declared.fault.FileFault.TheVariants as faults
 use Rattle.parquet_meta.specs.declared.head.DataPageHead.{DataPageHead}
 use Rattle.parquet_meta.specs.declared.head.DictionaryPageHead.{DictionaryPageHead}
 use Rattle.parquet_meta.specs.declared.head.PageAt.{PageAt}
-use Rattle.parquet_meta.specs.Faults.{◌>>=◌}
+use Rattle.row_base.specs.Faults.{◌>>=◌}
 use Rattle.parquet_pages.specs.Gives.{or_page}
 use Rattle.parquet_pages.specs.Hybrids.{hybrid_values}
 use Rattle.parquet_pages.specs.Plain.{block_in, plain_values}

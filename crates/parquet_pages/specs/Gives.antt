@@ -1,23 +1,23 @@
 -- What a reader of a page's body returned, beside what there is to read.
-use Rattle.std.specs.Prelude.{◌≡◌, ℕ, Option, Some, None, Result, Ok, Err, option_and_then}
+use Rattle.std.specs.Prelude.{ℕ, Bool, true, false, Option, Some, None, Result, Ok, Err}
+use Rattle.row_base.specs.Readings as base
 use Rattle.parquet_meta.specs.declared.fault.FileFault.{FileFault}
 use Rattle.parquet_meta.specs.declared.fault.FileFault.TheVariants as faults
 use Rattle.parquet_pages.specs.declared.fault.BodyFault.{BodyFault}
 use Rattle.parquet_pages.specs.declared.fault.BodyFault.TheVariants as body
 
--- what is read next, where there is something to go on with
-infixl 10 ◌>>=◌
-abbrev pub ◌>>=◌ : {A B : Type 0} → Option A → (A → Option B) → Option B
-o >>= f = option_and_then f o
+-- want of memory, which any call that takes memory may answer
+abbrev pub is_memory : BodyFault → Bool
+is_memory body.Damaged = false
+is_memory body.NoMemory = true
 
--- Bytes are damaged where there is nothing to read. Want of memory may always come.
+-- bytes are damaged where there is nothing to read
 abbrev pub Fails : {X : Type 0} → BodyFault → Option X → Type 0
-Fails body.Damaged r = r ≡ None
-Fails body.NoMemory r = Unit {0}
+Fails fault read = base.Fails is_memory fault read
 
-abbrev pub Gives : {X : Type 0} → Result X BodyFault → Option X → Type 0
-Gives (Ok x) r = r ≡ Some x
-Gives (Err e) r = Fails e r
+-- what a reader returned, seen by `view`, is what there is to read
+abbrev pub Gives : {X Y : Type 0} → Result X BodyFault → (X → Y) → Option Y → Type 0
+Gives result view read = base.Gives is_memory view result read
 
 -- what was read of the body at this place, or that it can't be read
 abbrev pub or_page : {X : Type 0} → ℕ → Option X → Result X FileFault

@@ -4,7 +4,7 @@ use Rattle.std.specs.Prelude.{ℕ, zero, suc, ◌+◌, ◌-◌, ◌*◌, ◌/◌
 use Rattle.bit_pack.specs.Bits.{value_at, most_values}
 use Rattle.bit_pack.specs.Numbers.{number_in}
 use Rattle.bit_pack.specs.Hybrid.{byte_width}
-use Rattle.parquet_pages.specs.Gives.{◌>>=◌}
+use Rattle.row_base.specs.Readings.{◌>>=◌}
 
 -- so many values of a width, from a place on
 unfoldable pub values_from : ℕ → List ℕ → ℕ → ℕ → List ℕ

@@ -9,7 +9,7 @@ use Rattle.parquet_meta.specs.declared.fault.FileFault.TheVariants as faults
 use Rattle.parquet_meta.specs.declared.head.DataPageHead.{DataPageHead}
 use Rattle.parquet_meta.specs.declared.head.DictionaryPageHead.{DictionaryPageHead}
 use Rattle.parquet_meta.specs.declared.head.PageAt.{PageAt}
-use Rattle.parquet_meta.specs.Faults.{◌>>=◌}
+use Rattle.row_base.specs.Faults.{◌>>=◌}
 use Rattle.parquet_pages.specs.Gives.{or_page}
 use Rattle.parquet_pages.specs.Plain.{plain_values}
 use Rattle.parquet_pages.specs.Levels.{levels_in, there, has_null, spread}

@@ -1,15 +1,13 @@
 -- Dictionaries: the distinct values of a chunk, and places among them (Encodings.md, "Dictionary Encoding
 -- (PLAIN_DICTIONARY = 2 and RLE_DICTIONARY = 8)").
-use Rattle.std.specs.Prelude.{◌≡◌, ◌≤◌, ℕ, zero, suc, ◌+◌, ◌*◌, ◌^◌, nat_le, Bool, true, false, ◌||◌, if◌then◌else◌, List, [], ◌∷◌, ◌++◌, length, slice_get, is_some, Option, Some, None, option_map, unwrap_or}
-use Rattle.std.specs.Map.{lookup}
+use Rattle.std.specs.Prelude.{ℕ, zero, suc, ◌+◌, ◌*◌, ◌^◌, nat_le, Bool, true, false, ◌||◌, if◌then◌else◌, List, [], ◌∷◌, ◌++◌, length, slice_get, is_some, Option, Some, None, option_map, unwrap_or}
 use Rattle.std.specs.Ordering.{is_eq}
-use Rattle.bit_pack.specs.Bits.{most_values}
 use Rattle.row_base.specs.declared.row.Datum.{Datum}
 use Rattle.row_base.specs.declared.row.Datum.TheVariants as datum
 use Rattle.row_base.specs.declared.row.Kind.{Kind}
 use Rattle.row_base.specs.declared.row.Kind.TheVariants as kind
 use Rattle.row_base.specs.RowOrder.{datum_cmp}
-use Rattle.parquet_pages.specs.Gives.{◌>>=◌}
+use Rattle.row_base.specs.Readings.{◌>>=◌}
 use Rattle.parquet_pages.specs.Hybrids.{hybrid_values}
 
 abbrev pub is_null : Datum → Bool
@@ -29,15 +27,6 @@ present (v ∷ vs) = (if is_null v then 0 else 1) + present vs
 abbrev pub place_of : List Datum → Datum → Option ℕ
 place_of [] q = None
 place_of (v ∷ vs) q = if is_eq (datum_cmp v q) then Some 0 else option_map suc (place_of vs q)
-
--- the place that a map from values to places has for a value
-abbrev pub place_in : List (Datum × ℕ) → Datum → Option ℕ
-place_in entries q = lookup (λ k. is_eq (datum_cmp q k)) entries
-
--- a map has the place of each of so many values, and no other
-pub record IsIndexed (values : List Datum) (entries : List (Datum × ℕ)) : Type 0 where
-  pub few : length values ≤ most_values
-  pub found : (q : Datum) → place_in entries q ≡ place_of values q
 
 -- these values, and behind them the further one, where it is new and isn't null
 abbrev pub with_value : List Datum → Datum → List Datum

@@ -6,7 +6,7 @@ use Rattle.row_base.specs.declared.row.Datum.{Datum}
 use Rattle.row_base.specs.declared.row.Datum.TheVariants as datum
 use Rattle.row_base.specs.declared.row.Kind.{Kind}
 use Rattle.row_base.specs.declared.row.Kind.TheVariants as kind
-use Rattle.parquet_pages.specs.Gives.{◌>>=◌}
+use Rattle.row_base.specs.Readings.{◌>>=◌}
 use Rattle.parquet_pages.specs.Hybrids.{unpacked}
 
 -- the first bytes, so many, and what is behind them

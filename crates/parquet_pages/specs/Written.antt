@@ -71,8 +71,7 @@ index_text optional dictionary vs =
     let width = index_width (length dictionary) in
     levels_text optional vs ++ width ∷ hybrid_of width (places_of dictionary vs)
 
--- a value can stand in a column: null where the column may be null, and else a value of its kind, whose text has fewer
--- bytes than four bytes count
+-- a value can stand in a column: null where the column may be null, and else a value of its kind
 abbrev pub CanStand : Kind → Bool → Datum → Type 0
 CanStand k optional datum.Null = optional ≡ true
 CanStand k optional (datum.Long n) = is_of_kind k (datum.Long n) ≡ true

@@ -1,40 +1,43 @@
 //! Dictionaries of chunks (Parquet format, Encodings.md, "Dictionary Encoding (PLAIN_DICTIONARY = 2 and RLE_DICTIONARY =
 //! 8)").
-ghost use Rattle.std.specs.Prelude.{false, ◌≡◌, ◌==◌, ◌^◌, ◌<◌, ◌≤◌, ◌+◌, ◌++◌, ◌∷◌, [], true, length, slice_index, EachIndex, if◌then◌else◌, not, ◌||◌, nat_le, is_some, Some, None, Bool, IfSome, IfOk, OnOk};
+ghost use Rattle.std.specs.Prelude.{false, ◌≡◌, ◌==◌, ◌^◌, ◌<◌, ◌≤◌, ◌+◌, ◌++◌, ◌∷◌, [], true, length, slice_index, EachIndex, if◌then◌else◌, nat_le, option_map, Some, None, Bool, IfSome, IfNone, IfOk, OnOk};
 ghost use Rattle.std.specs.List.{All};
-ghost use Rattle.std.specs.Ordering.{is_eq};
 ghost use Rattle.bit_pack.specs.Bits.{most_values};
 ghost use Rattle.bit_pack.specs.Hybrid.{hybrid_of};
-ghost use Rattle.row_base.specs.RowOrder.{datum_cmp};
-ghost use Rattle.row_base.specs.declared.row.Datum.{Datum as ADatum};
 ghost use Rattle.parquet_pages.specs.Places as spec;
 ghost use Rattle.parquet_pages.specs.Written as written;
 
 use crate::hybrid::hybrid_text;
 use crate::levels::append_levels;
-use crate::plain::{append, append_values};
+use crate::plain::{append, append_values, room_for};
+use indexmap::IndexSet;
 use row_base::{Datum, Kind, NoMemory};
 use std::alloc::Global;
-use std::collections::BTreeMap;
 use std::marker::Model;
 
 /// The distinct values of a chunk that aren't null, in order of first appearance. Contracts see it as the list of them.
 #[derive(Debug, Drop)]
 pub struct Dictionary {
-    values: Vec<Datum>,
-    places: BTreeMap<Datum, u32>,
+    values: IndexSet<Datum>,
 }
 
 impl Model for Dictionary {
-    ghost use Rattle.std.specs.Prelude.{List};
+    ghost use Rattle.std.specs.Prelude.{List, ◌≤◌, length};
+    ghost use Rattle.bit_pack.specs.Bits.{most_values};
     ghost use Rattle.row_base.specs.declared.row.Datum.{Datum};
-    ghost use Rattle.parquet_pages.specs.Places.{IsIndexed};
 
     ghost Value = { List Datum };
 
-    ghost view = { λ d. d.values.items };
+    ghost view = { λ d. d.values.keys };
 
-    ghost invariant = { λ d. IsIndexed d.values.items d.places.entries };
+    ghost invariant = { λ d. length d.values.keys ≤ most_values };
+}
+
+/// The dictionary of a chunk, and the places in it of the chunk's values that aren't null.
+#[derive(Debug, Drop)]
+pub struct Indexed {
+    pub dictionary: Dictionary,
+    pub places: Vec<u32>,
 }
 
 fn is_null(value: &Datum) -> bool
@@ -44,7 +47,7 @@ fn is_null(value: &Datum) -> bool
 }
 
 /// How many values aren't null.
-fn present(values: &[Datum]) -> usize
+pub fn count_present(values: &[Datum]) -> usize
     ensures count { result ≡ spec.present values.now }
     ensures few { result ≤ length values.now }
 {
@@ -57,83 +60,87 @@ fn present(values: &[Datum]) -> usize
     count
 }
 
-/// The place that a map has for a value.
-fn place_in(places: &BTreeMap<Datum, u32>, value: &Datum) -> Option<u32>
-    ensures { result ≡ spec.place_in places.now.entries value.now }
+/// The place of a value among these.
+fn place_in(found: &IndexSet<Datum>, value: &Datum) -> Option<usize>
+    ensures place { result ≡ spec.place_of found.now.keys value.now }
+    ensures within { IfSome result (λ k. k < length found.now.keys) }
 {
-    places.get(value).copied()
+    found.get_index_of(value)
 }
 
-/// Gives a value that has none a place.
-fn put_place(places: &mut BTreeMap<Datum, u32>, value: Datum, place: u32) -> Result<(), NoMemory>
-    ensures { OnOk result ((q : ADatum) → spec.place_in places.new.entries q
-        ≡ (if is_eq (datum_cmp value q) then Some place else spec.place_in places.old.entries q)) }
+/// Puts a value that isn't among these behind them.
+fn put(found: &mut IndexSet<Datum>, value: Datum) -> Result<(), NoMemory>
+    requires { spec.place_of found.old.keys value ≡ None }
+    ensures { OnOk result (found.new.keys ≡ found.old.keys ++ value ∷ []) }
 {
-    places.insert(value, place)?;
+    found.insert(value)?;
     Ok(())
 }
 
-/// Whether a value has no place yet and isn't null.
-fn is_new(places: &BTreeMap<Datum, u32>, value: &Datum) -> bool
-    ensures { result ≡ not (spec.is_null value.now || is_some (spec.place_in places.now.entries value.now)) }
-{
-    !(is_null(value) || place_in(places, value).is_some())
-}
-
-/// Puts a new value behind the others.
-fn add(
-    found: &mut Vec<Datum>,
-    places: &mut BTreeMap<Datum, u32>,
+/// The place of a value among these, behind which it is put where it is new. `None` where it is new and they are so many.
+fn place_for(
+    found: &mut IndexSet<Datum>,
     value: &Datum,
-) -> Result<(), NoMemory>
-    requires indexed { spec.IsIndexed found.old.items places.old.entries }
-    requires room { length found.old.items < most_values }
-    requires fresh { spec.place_of found.old.items value.now ≡ None }
-    ensures found { OnOk result (found.new.items ≡ found.old.items ++ value.now ∷ []) }
-    ensures indexed { OnOk result (spec.IsIndexed found.new.items places.new.entries) }
+    most: usize,
+) -> Result<Option<u32>, NoMemory>
+    requires few { length found.old.keys ≤ most }
+    requires most { most ≤ most_values }
+    requires some { spec.is_null value.now ≡ false }
+    ensures found { IfOk result (λ o. IfSome o (λ k. found.new.keys ≡ spec.with_value found.old.keys value.now)) }
+    ensures place { IfOk result (λ o. IfSome o (λ k. spec.place_of found.new.keys value.now ≡ Some k)) }
+    ensures few { IfOk result (λ o. IfSome o (λ k. length found.new.keys ≤ most)) }
+    ensures new { IfOk result (λ o. IfNone o (spec.place_of found.old.keys value.now ≡ None)) }
+    ensures full { IfOk result (λ o. IfNone o (length found.old.keys ≡ most)) }
 {
-    put_place(places, value.copy()?, found.len() as u32)?;
-    found.push(value.copy()?)?;
-    Ok(())
+    match place_in(found, value) {
+        Some(place) => Ok(Some(place as u32)),
+        None => {
+            let place = found.len();
+            if place == most {
+                return Ok(None);
+            }
+            put(found, value.copy()?)?;
+            Ok(Some(place as u32))
+        }
+    }
 }
 
-/// The distinct values that aren't null, with their places, where there are at most so many of them.
-fn distinct(alloc: Global, values: &[Datum], most: usize) -> Result<Option<Dictionary>, NoMemory>
+/// The distinct values that aren't null, and the places of all that aren't null, where there are at most so many of the
+/// former. Each value is looked up once.
+fn distinct(alloc: Global, values: &[Datum], most: usize) -> Result<Option<Indexed>, NoMemory>
     requires { most ≤ most_values }
-    ensures { IfOk result (λ d. d ≡ (if nat_le (length (spec.distinct_after [] values.now)) most
+    ensures dictionary { IfOk result (λ o. option_map (λ i. i.dictionary) o ≡ (if nat_le (length (spec.distinct_after [] values.now)) most
         then Some (spec.distinct_after [] values.now) else None)) }
+    ensures places { IfOk result (λ o. IfSome o (λ i. i.places.items ≡ spec.places_of (spec.distinct_after [] values.now) values.now)) }
 {
-    let mut found = Vec::new(alloc);
-    let mut places = BTreeMap::new(alloc);
+    let mut found = IndexSet::with_capacity(alloc, most)?;
+    let mut places = Vec::with_capacity(alloc, values.len())?;
     for value in values {
-        if !is_new(&places, value) {
+        if is_null(value) {
             continue;
         }
-        if found.len() == most {
-            return Ok(None);
+        match place_for(&mut found, value, most)? {
+            Some(place) => places.push(place)?,
+            None => return Ok(None),
         }
-        add(&mut found, &mut places, value)?;
     }
-    Ok(Some(Dictionary {
-        values: found,
+    Ok(Some(Indexed {
+        dictionary: Dictionary { values: found },
         places,
     }))
 }
 
 /// The dictionary of a chunk's values, where it pays.
 #[tactic(auto, unfolding(crate::specs::Places::dictionary_of))]
-fn dictionary_of(
-    alloc: Global,
-    kind: Kind,
-    values: &[Datum],
-) -> Result<Option<Dictionary>, NoMemory>
+fn dictionary_of(alloc: Global, kind: Kind, values: &[Datum]) -> Result<Option<Indexed>, NoMemory>
     requires { length values.now ≤ most_values }
-    ensures { IfOk result (λ d. d ≡ spec.dictionary_of kind values.now) }
+    ensures dictionary { IfOk result (λ o. option_map (λ i. i.dictionary) o ≡ spec.dictionary_of kind values.now) }
+    ensures places { IfOk result (λ o. IfSome o (λ i. i.places.items ≡ spec.places_of i.dictionary values.now)) }
 {
     if kind == Kind::Boolean {
         return Ok(None);
     }
-    distinct(alloc, values, present(values) / 2)
+    distinct(alloc, values, count_present(values) / 2)
 }
 
 /// The least width, from 1 on, that holds each place of so many values.
@@ -148,32 +155,6 @@ fn index_width(count: usize) -> u8
         width += 1;
     }
     width
-}
-
-/// The places of the values that aren't null.
-fn places_of(
-    alloc: Global,
-    dictionary: &[Datum],
-    places: &BTreeMap<Datum, u32>,
-    optional: bool,
-    values: &[Datum],
-) -> Result<Vec<u32>, NoMemory>
-    requires indexed { spec.IsIndexed dictionary.now places.now.entries }
-    requires placed { All (λ v. spec.can_place dictionary.now optional v ≡ true) values.now }
-    ensures places { IfOk result (λ v. v.items ≡ spec.places_of dictionary.now values.now) }
-    ensures few { IfOk result (λ v. length v.items ≤ length values.now) }
-    ensures within { IfOk result (λ v. EachIndex v.items (λ k. slice_index v.items k < length dictionary.now)) }
-{
-    let mut found = Vec::with_capacity(alloc, values.len())?;
-    for value in values {
-        if !is_null(value) {
-            match place_in(places, value) {
-                Some(place) => found.push(place)?,
-                None => unreachable!(),
-            }
-        }
-    }
-    Ok(found)
 }
 
 /// Appends places in a dictionary of so many values: the width, and the hybrid.
@@ -201,15 +182,16 @@ impl Dictionary {
     /// The dictionary of a chunk's values: the distinct ones that aren't null, in order of first appearance. `None`
     /// where the kind is `Boolean`, or twice the number of distinct values exceeds the number of values that aren't
     /// null.
-    pub fn of(alloc: Global, kind: Kind, values: &[Datum]) -> Result<Option<Dictionary>, NoMemory>
+    pub fn of(alloc: Global, kind: Kind, values: &[Datum]) -> Result<Option<Indexed>, NoMemory>
         requires few { length values.now ≤ most_values }
         requires stand { All (written.CanStand kind true) values.now }
-        ensures dictionary { IfOk result (λ d. d ≡ spec.dictionary_of kind values.now) }
+        ensures dictionary { IfOk result (λ o. option_map (λ i. i.dictionary) o ≡ spec.dictionary_of kind values.now) }
 
         // What `page` and `indices` ask.
-        ensures stand { IfOk result (λ found. IfSome found (λ d. All (written.CanStand kind false) d)) }
-        ensures placed { IfOk result (λ found. IfSome found (λ d. (optional : Bool) → All (written.CanStand kind optional) values.now
-            → All (λ v. spec.can_place d optional v ≡ true) values.now)) }
+        ensures stand { IfOk result (λ o. IfSome o (λ i. All (written.CanStand kind false) i.dictionary)) }
+        ensures placed { IfOk result (λ o. IfSome o (λ i. (optional : Bool) → All (written.CanStand kind optional) values.now
+            → All (λ v. spec.can_place i.dictionary optional v ≡ true) values.now)) }
+        ensures places { IfOk result (λ o. IfSome o (λ i. i.places.items ≡ spec.places_of i.dictionary values.now)) }
     {
         let found = dictionary_of(alloc, kind, values)?;
         Ok(found)
@@ -236,7 +218,7 @@ impl Dictionary {
         requires { All (written.CanStand kind false) self.now }
         ensures { IfOk result (λ v. v.items ≡ dictionary_text kind self.now) }
     {
-        let mut out = Vec::new(alloc);
+        let mut out = Vec::with_capacity(alloc, room_for(kind, self.values.len()))?;
         append_values(alloc, kind, self.values.as_slice(), &mut out)?;
         Ok(out)
     }
@@ -251,21 +233,16 @@ impl Dictionary {
         alloc: Global,
         optional: bool,
         values: &[Datum],
+        places: &[u32],
     ) -> Result<Vec<u8>, NoMemory>
         requires few { length values.now ≤ most_values }
         requires placed { All (λ v. spec.can_place self.now optional v ≡ true) values.now }
+        requires places { places.now ≡ spec.places_of self.now values.now }
         ensures { IfOk result (λ v. v.items ≡ index_text optional self.now values.now) }
     {
-        let places = places_of(
-            alloc,
-            self.values.as_slice(),
-            &self.places,
-            optional,
-            values,
-        )?;
         let mut out = Vec::new(alloc);
         append_levels(alloc, optional, values, &mut out)?;
-        append_places(alloc, self.values.len(), places.as_slice(), &mut out)?;
+        append_places(alloc, self.values.len(), places, &mut out)?;
         Ok(out)
     }
 }

@@ -1,7 +1,7 @@
 //! Packed values and the hybrid, of which no fault is told apart from another.
-ghost use Rattle.std.specs.Prelude.{◌≡◌, ◌^◌, ◌<◌, ◌≤◌, length, slice_index, EachIndex, Some, ◌++◌, IfOk, OnOk, MatchResult};
+ghost use Rattle.std.specs.Prelude.{◌≡◌, ◌^◌, ◌<◌, ◌≤◌, length, slice_index, EachIndex, ◌++◌, IfOk, OnOk};
 ghost use Rattle.bit_pack.specs.Bits.{most_values, Packs};
-ghost use Rattle.parquet_pages.specs.Gives.{Fails};
+ghost use Rattle.parquet_pages.specs.Gives.{Gives};
 ghost use Rattle.parquet_pages.specs.Hybrids as spec;
 ghost use Rattle.bit_pack.specs.Hybrid.{hybrid_of};
 ghost use Rattle.parquet_pages.specs.Written as written;
@@ -18,8 +18,7 @@ pub(crate) fn hybrid(
     bytes: &[u8],
     count: usize,
 ) -> Result<Vec<u32>, BodyFault>
-    ensures values { MatchResult result (λ v. spec.hybrid_values width bytes.now count ≡ Some v.items)
-        (λ e. Fails e (spec.hybrid_values width bytes.now count)) }
+    ensures values { Gives result (λ v. v.items) (spec.hybrid_values width bytes.now count) }
     ensures all { IfOk result (λ v. length v.items ≡ count) }
 {
     match read_hybrid(alloc, width, bytes, count) {
@@ -34,8 +33,7 @@ pub(crate) fn hybrid(
 /// So many bits, the lowest bit of each byte first.
 pub(crate) fn bits(alloc: Global, bytes: &[u8], count: usize) -> Result<Vec<u32>, BodyFault>
     requires { count ≤ most_values }
-    ensures { MatchResult result (λ v. spec.unpacked 1 count bytes.now ≡ Some v.items)
-        (λ e. Fails e (spec.unpacked 1 count bytes.now)) }
+    ensures { Gives result (λ v. v.items) (spec.unpacked 1 count bytes.now) }
 {
     match unpack(alloc, 1, bytes, count) {
         Ok(values) => Ok(values),

@@ -1,8 +1,8 @@
 //! Definition levels of a column that may be null (Parquet format, README.md, "Nulls"): 1 for a value that is there, and
 //! 0 for null. In a data page they are a hybrid of width 1 behind its number of bytes.
-ghost use Rattle.std.specs.Prelude.{◌≡◌, ◌≤◌, ◌++◌, length, if◌then◌else◌, Some, IfOk, OnOk, MatchResult};
+ghost use Rattle.std.specs.Prelude.{◌≡◌, ◌≤◌, ◌++◌, length, if◌then◌else◌, IfOk, OnOk};
 ghost use Rattle.bit_pack.specs.Bits.{most_values};
-ghost use Rattle.parquet_pages.specs.Gives.{Fails};
+ghost use Rattle.parquet_pages.specs.Gives.{Gives};
 ghost use Rattle.parquet_pages.specs.Levels as spec;
 ghost use Rattle.parquet_pages.specs.Places.{is_null};
 ghost use Rattle.parquet_pages.specs.Written as written;
@@ -20,7 +20,7 @@ pub(crate) fn levels(
     count: usize,
     bytes: &[u8],
 ) -> Result<(Vec<u32>, &[u8]), BodyFault>
-    ensures levels { MatchResult result (λ l. spec.levels_in count bytes.now ≡ Some (l.0.items, l.1.now)) (λ e. Fails e (spec.levels_in count bytes.now)) }
+    ensures levels { Gives result (λ l. (l.0.items, l.1.now)) (spec.levels_in count bytes.now) }
     ensures all { IfOk result (λ l. length l.0.items ≡ count) }
 {
     match block(bytes) {

@@ -10,9 +10,6 @@ mod pages;
 mod places;
 mod plain;
 
-pub use dictionary::Dictionary;
+pub use dictionary::{Dictionary, Indexed, count_present};
 pub use laws::{dictionaries_pay, nulls_are_found, pages_are_read, pages_read_back};
 pub use pages::{page_has_null, read_dictionary, read_page, write_page};
-
-#[cfg(test)]
-mod tests;

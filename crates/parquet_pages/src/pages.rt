@@ -1,17 +1,17 @@
 //! Whole pages: data pages, dictionary pages and the levels of data pages (Parquet format, README.md, "Data Pages";
 //! parquet.thrift, `PageHeader`).
-ghost use Rattle.std.specs.Prelude.{◌≡◌, ◌≤◌, length, Some, Ok, Err, IfOk, IfSome, option_map, MatchResult};
+ghost use Rattle.std.specs.Prelude.{◌≡◌, ◌≤◌, length, Ok, IfOk, IfSome, option_map, MatchResult};
 ghost use Rattle.std.specs.List.{All};
 ghost use Rattle.bit_pack.specs.Bits.{most_values};
 ghost use Rattle.parquet_meta.specs.Faults.{FaultOf, Reads};
-ghost use Rattle.parquet_pages.specs.Gives.{Fails, Gives};
+ghost use Rattle.parquet_pages.specs.Gives.{Gives};
 ghost use Rattle.parquet_pages.specs.Pages as spec;
 ghost use Rattle.parquet_pages.specs.Written as written;
 
 use crate::fault::BodyFault;
 use crate::levels::{append_levels, has_null, levels, spread, there};
 use crate::places::indexed_values;
-use crate::plain::{append_values, plain_values};
+use crate::plain::{append_values, plain_values, room_for};
 use bit_pack::MOST_VALUES;
 use parquet_meta::{DataPageHead, DictionaryPageHead, FileFault, PageAt};
 use row_base::{Datum, Kind, NoMemory};
@@ -152,8 +152,7 @@ fn present_values(
     bytes: &[u8],
 ) -> Result<Vec<Datum>, BodyFault>
     requires { count ≤ most_values }
-    ensures { MatchResult result (λ v. spec.present_values kind encoding (option_map (λ d. d.now) dictionary.entry) count bytes.now ≡ Some v.items)
-        (λ e. Fails e (spec.present_values kind encoding (option_map (λ d. d.now) dictionary.entry) count bytes.now)) }
+    ensures { Gives result (λ v. v.items) (spec.present_values kind encoding (option_map (λ d. d.now) dictionary.entry) count bytes.now) }
 {
     if is_plain(encoding) {
         return plain_values(alloc, kind, count, bytes);
@@ -176,8 +175,7 @@ fn body_values(
     bytes: &[u8],
 ) -> Result<Vec<Datum>, BodyFault>
     requires { count ≤ most_values }
-    ensures { MatchResult result (λ v. spec.body_values kind optional encoding (option_map (λ d. d.now) dictionary.entry) count bytes.now ≡ Some v.items)
-        (λ e. Fails e (spec.body_values kind optional encoding (option_map (λ d. d.now) dictionary.entry) count bytes.now)) }
+    ensures { Gives result (λ v. v.items) (spec.body_values kind optional encoding (option_map (λ d. d.now) dictionary.entry) count bytes.now) }
 {
     if !optional {
         return present_values(alloc, kind, encoding, dictionary, count, bytes);
@@ -236,7 +234,7 @@ fn body_has_null(
     count: usize,
     bytes: &[u8],
 ) -> Result<bool, BodyFault>
-    ensures { Gives result (spec.body_has_null optional count bytes.now) }
+    ensures { Gives result (λ x. x) (spec.body_has_null optional count bytes.now) }
 {
     if !optional {
         return Ok(false);
@@ -303,7 +301,7 @@ pub fn write_page(
     requires stand { All (written.CanStand kind optional) values.now }
     ensures { IfOk result (λ v. v.items ≡ written.page_text kind optional values.now) }
 {
-    let mut out = Vec::new(alloc);
+    let mut out = Vec::with_capacity(alloc, room_for(kind, values.len()))?;
     append_levels(alloc, optional, values, &mut out)?;
     append_values(alloc, kind, values, &mut out)?;
     Ok(out)

@@ -1,7 +1,7 @@
 //! Values by their places in a dictionary (Parquet format, Encodings.md, "Dictionary Encoding (PLAIN_DICTIONARY = 2 and
 //! RLE_DICTIONARY = 8)").
-ghost use Rattle.std.specs.Prelude.{◌≡◌, Some, MatchResult, option_map, slice_get};
-ghost use Rattle.parquet_pages.specs.Gives.{Fails};
+ghost use Rattle.std.specs.Prelude.{◌≡◌, option_map, slice_get};
+ghost use Rattle.parquet_pages.specs.Gives.{Gives};
 ghost use Rattle.parquet_pages.specs.Places as spec;
 
 use crate::fault::BodyFault;
@@ -17,8 +17,7 @@ fn value_at(dictionary: &[Datum], place: u32) -> Option<&Datum>
 
 /// The values at these places of a dictionary.
 fn values_at(alloc: Global, dictionary: &[Datum], places: &[u32]) -> Result<Vec<Datum>, BodyFault>
-    ensures { MatchResult result (λ v. spec.values_at dictionary.now places.now ≡ Some v.items)
-        (λ e. Fails e (spec.values_at dictionary.now places.now)) }
+    ensures { Gives result (λ v. v.items) (spec.values_at dictionary.now places.now) }
 {
     let mut values = Vec::with_capacity(alloc, places.len())?;
     for place in places {
@@ -38,8 +37,7 @@ pub(crate) fn indexed_values(
     count: usize,
     bytes: &[u8],
 ) -> Result<Vec<Datum>, BodyFault>
-    ensures { MatchResult result (λ v. spec.indexed_values dictionary.now count bytes.now ≡ Some v.items)
-        (λ e. Fails e (spec.indexed_values dictionary.now count bytes.now)) }
+    ensures { Gives result (λ v. v.items) (spec.indexed_values dictionary.now count bytes.now) }
 {
     let Some((width, rest)) = bytes.split_first() else {
         return Err(BodyFault::Damaged);

@@ -1,8 +1,8 @@
 //! Values in the PLAIN encoding (Parquet format, Encodings.md, "Plain: (PLAIN = 0)").
-ghost use Rattle.std.specs.Prelude.{◌≡◌, ◌≤◌, ◌++◌, length, Some, option_map, IfOk, OnOk, MatchResult};
+ghost use Rattle.std.specs.Prelude.{◌≡◌, ◌≤◌, ◌*◌, ◌++◌, length, option_map, IfOk, OnOk};
 ghost use Rattle.std.specs.List.{flat_map};
 ghost use Rattle.bit_pack.specs.Bits.{most_values};
-ghost use Rattle.parquet_pages.specs.Gives.{Fails, Gives};
+ghost use Rattle.parquet_pages.specs.Gives.{Gives};
 ghost use Rattle.parquet_pages.specs.Plain as spec;
 ghost use Rattle.parquet_pages.specs.Written as written;
 
@@ -74,7 +74,7 @@ fn date(bytes: &[u8]) -> Option<(Datum, &[u8])>
 
 /// The text of these bytes.
 fn text_of(alloc: Global, bytes: &[u8]) -> Result<Datum, BodyFault>
-    ensures { Gives result (spec.text_datum bytes.now) }
+    ensures { Gives result (λ x. x) (spec.text_datum bytes.now) }
 {
     if bytes.len() > MAX_TEXT {
         return Err(BodyFault::Damaged);
@@ -87,7 +87,7 @@ fn text_of(alloc: Global, bytes: &[u8]) -> Result<Datum, BodyFault>
 
 /// The text at the front, and what is behind it.
 fn text(alloc: Global, bytes: &[u8]) -> Result<(Datum, &[u8]), BodyFault>
-    ensures { MatchResult result (λ v. spec.text_in bytes.now ≡ Some (v.0, v.1.now)) (λ e. Fails e (spec.text_in bytes.now)) }
+    ensures { Gives result (λ v. (v.0, v.1.now)) (spec.text_in bytes.now) }
 {
     match block(bytes) {
         Some((text, rest)) => Ok((text_of(alloc, text)?, rest)),
@@ -99,7 +99,7 @@ fn text(alloc: Global, bytes: &[u8]) -> Result<(Datum, &[u8]), BodyFault>
 #[tactic(auto, unfolding(crate::specs::Plain::plain_value))]
 #[inline]
 fn plain_value(alloc: Global, kind: Kind, bytes: &[u8]) -> Result<(Datum, &[u8]), BodyFault>
-    ensures { MatchResult result (λ v. spec.plain_value kind bytes.now ≡ Some (v.0, v.1.now)) (λ e. Fails e (spec.plain_value kind bytes.now)) }
+    ensures { Gives result (λ v. (v.0, v.1.now)) (spec.plain_value kind bytes.now) }
 {
     match kind {
         Kind::Long => long(bytes).ok_or(BodyFault::Damaged),
@@ -117,8 +117,7 @@ fn values_in_line(
     count: usize,
     bytes: &[u8],
 ) -> Result<Vec<Datum>, BodyFault>
-    ensures { MatchResult result (λ v. spec.values_in_line kind count bytes.now ≡ Some v.items)
-        (λ e. Fails e (spec.values_in_line kind count bytes.now)) }
+    ensures { Gives result (λ v. v.items) (spec.values_in_line kind count bytes.now) }
 {
     let mut values = Vec::with_capacity(alloc, count.min(bytes.len() / LEAST_SIZE))?;
     let mut rest = bytes;
@@ -134,8 +133,7 @@ fn values_in_line(
 #[tactic(auto, unfolding(crate::specs::Plain::booleans_in))]
 fn booleans(alloc: Global, count: usize, bytes: &[u8]) -> Result<Vec<Datum>, BodyFault>
     requires { count ≤ most_values }
-    ensures { MatchResult result (λ v. spec.booleans_in count bytes.now ≡ Some v.items)
-        (λ e. Fails e (spec.booleans_in count bytes.now)) }
+    ensures { Gives result (λ v. v.items) (spec.booleans_in count bytes.now) }
 {
     let bits = bits(alloc, bytes, count)?;
     let mut values = Vec::with_capacity(alloc, bits.len())?;
@@ -154,8 +152,7 @@ pub(crate) fn plain_values(
     bytes: &[u8],
 ) -> Result<Vec<Datum>, BodyFault>
     requires { count ≤ most_values }
-    ensures { MatchResult result (λ v. spec.plain_values kind count bytes.now ≡ Some v.items)
-        (λ e. Fails e (spec.plain_values kind count bytes.now)) }
+    ensures { Gives result (λ v. v.items) (spec.plain_values kind count bytes.now) }
 {
     match kind {
         Kind::Boolean => booleans(alloc, count, bytes),
@@ -228,6 +225,18 @@ fn append_in_line(values: &[Datum], out: &mut Vec<u8>) -> Result<(), NoMemory>
         append_value(value, out)?;
     }
     Ok(())
+}
+
+/// The room for so many values of a kind, where texts have as many bytes as longs.
+pub(crate) fn room_for(kind: Kind, count: usize) -> usize
+    requires { count ≤ most_values }
+    ensures { result ≤ 8 * count }
+{
+    match kind {
+        Kind::Long | Kind::String => 8 * count,
+        Kind::Integer | Kind::Date => 4 * count,
+        Kind::Boolean => count / 8,
+    }
 }
 
 /// Appends the bytes of the values that aren't null.

@@ -26,7 +26,7 @@ use Rattle.parquet_plain.specs.Tree.{physical_of, is_partition, sources_from}
 use Rattle.parquet_plain.specs.Reading.{most_rows, file_rows}
 use Rattle.parquet_plain.specs.Written.{parts_in, parts_of, page_values_most, group_rows_most, front_of, pages_of, chunk_text_by, chunk_text, chunk_entry_by, chunk_entry, column_values, chunks_text, chunk_entries, group_text, group_entry, groups_text, group_entries, converted_of, encodings_of, place_if, repetition_of, element_of, elements_from, elements_of, root_of, magic, groups_of, meta_of, length_bytes, ended, file_text}
 use Rattle.parquet_plain.specs.Grammar.{AreGroups, FileRows}
-use Rattle.parquet_plain.specs.ReadBack.{nulled, FilesReadBack}
+use Rattle.parquet_plain.specs.ReadBack.{nulled, Returns, FilesReadBack}
 use Rattle.parquet_plain.proofs.ChunkBack.{Small, stands_first, stands_second, stands_within, Whole, DictionaryBack, IsFew, EachIs, joined, parts_each, parts_joined}
 use Rattle.parquet_plain.proofs.Dictionaries.{values_placed, dictionary_stands, all_may_stand}
 use Rattle.parquet_plain.proofs.FilesRead.{file_only}
@@ -88,27 +88,23 @@ whole c vs few stand back = record {
 record GroupFits (s : TableSchema) (rows : List (List Datum)) : Type 0 where
   few : length rows ≤ 16384
   fits : All (FitsSchema s) rows
-  back : All (All CanReturn) rows
+  back : All (Returns s) rows
 
 get_past : (before later : List Column) (e d : Column) → get_or (before ++ e ∷ later) (length before) d ≡ e
 get_past [] later e d = refl
 get_past (x ∷ before) later e d = get_past before later e d
 
-return_at : (r : List Datum) (k : ℕ) → All CanReturn r → k < length r → CanReturn (get_or r k datum.Null)
-return_at r k h within = h k datum.Null within
+column_returns : (s : TableSchema) (k : ℕ) (rows : List (List Datum)) → is_partition s.partition k ≡ false → GroupFits s rows → All CanReturn (column_values k rows)
+column_returns s k rows written g = All-map CanReturn (λ r. get_or r k datum.Null) rows (λ i r here. g.back i r here k written)
 
-column_returns : (s : TableSchema) (k : ℕ) (rows : List (List Datum)) → k < length s.columns → GroupFits s rows → All CanReturn (column_values k rows)
-column_returns s k rows within g =
-    All-map CanReturn (λ r. get_or r k datum.Null) rows (λ i r here. return_at (get_or rows i r) k (g.back i r here) (omega (arith, (g.fits i r here).count, within)))
-
-fit_from : (s : TableSchema) (rows : List (List Datum)) (before cs : List Column) → GroupFits s rows → s.columns ≡ before ++ cs → FitFrom rows (length before) cs
+fit_from : (s : TableSchema) (rows : List (List Datum)) (before cs : List Column) → GroupFits s rows → s.columns ≡ before ++ cs → FitFrom s.partition rows (length before) cs
 fit_from s rows before [] g e = tt
 fit_from s rows before (c ∷ cs) g e =
     let within : length before < length s.columns = omega (arith, ap length e ∙ length-append before (c ∷ cs)) in
     let is : c ≡ get_or s.columns (length before) c = sym (ap (λ xs. get_or xs (length before) c) e ∙ get_past before cs c c) in
     let n : length (column_values (length before) rows) ≡ length rows = length-map rows (λ (r : List Datum). get_or r (length before) datum.Null) in (
-      whole c (column_values (length before) rows) (omega (arith, n, g.few)) (column_stands s (length before) c rows within is g.fits) (column_returns s (length before) rows within g),
-      subst (λ n. FitFrom rows n cs) (length-append before (c ∷ [])) (fit_from s rows (before ++ c ∷ []) cs g (e ∙ sym (append_assoc before (c ∷ []) cs))),
+      (λ written. whole c (column_values (length before) rows) (omega (arith, n, g.few)) (column_stands s (length before) c rows within is g.fits) (column_returns s (length before) rows written g)),
+      subst (λ n. FitFrom s.partition rows n cs) (length-append before (c ∷ [])) (fit_from s rows (before ++ c ∷ []) cs g (e ∙ sym (append_assoc before (c ∷ []) cs))),
     )
 
 map-append : (f : List Datum → List Datum) (xs ys : List (List Datum)) → map f (xs ++ ys) ≡ map f xs ++ map f ys
@@ -289,7 +285,7 @@ few_groups rows = few_parts group_rows_most (length rows) rows
 
 record RowsFit (s : TableSchema) (rows : List (List Datum)) : Type 0 where
   fits : All (FitsSchema s) rows
-  back : All (All CanReturn) rows
+  back : All (Returns s) rows
 
 all_fit : (s : TableSchema) (rows : List (List Datum)) → RowsFit s rows → EachIs (GroupFits s) (groups_of rows)
 unfolding parts_of
@@ -298,11 +294,11 @@ all_fit s rows h =
     (λ rs k. record {
       few = omega (arith, length-take 16384 rs);
       fits = All-take (FitsSchema s) 16384 rs k.fits;
-      back = All-take (All CanReturn) 16384 rs k.back;
+      back = All-take (Returns s) 16384 rs k.back;
     })
     (λ rs k. record {
       fits = All-drop (FitsSchema s) 16384 rs k.fits;
-      back = All-drop (All CanReturn) 16384 rs k.back;
+      back = All-drop (Returns s) 16384 rs k.back;
     })
     (length rows) rows h
 
@@ -371,7 +367,7 @@ meta_fits s rows few named fit short small t = record {
     }
 
 -- a file that is written is read as its rows, with null in the partition columns
-pub file_back : (s : TableSchema) (rows : List (List Datum)) → IsSchema s → AreNamed s.columns → All (FitsSchema s) rows → All (All CanReturn) rows → length rows ≤ most_rows
+pub file_back : (s : TableSchema) (rows : List (List Datum)) → IsSchema s → AreNamed s.columns → All (FitsSchema s) rows → All (Returns s) rows → length rows ≤ most_rows
     → length (file_text s rows) ≤ 67108864 → file_rows s (file_text s rows) ≡ Ok (map (nulled s) rows)
 unfolding whole_file meta_of
 file_back s rows schema named fits back short small =

@@ -8,7 +8,7 @@ use Rattle.parquet_meta.specs.declared.fault.FileFault.{FileFault}
 use Rattle.parquet_meta.specs.declared.fault.FileFault.TheVariants as faults
 use Rattle.parquet_meta.specs.declared.meta.FileMeta.{FileMeta}
 use Rattle.parquet_meta.specs.declared.meta.SchemaElement.{SchemaElement}
-use Rattle.parquet_meta.specs.Faults.{◌>>=◌}
+use Rattle.row_base.specs.Faults.{◌>>=◌}
 use Rattle.parquet_meta.specs.Footer.{footer_of}
 use Rattle.parquet_plain.specs.declared.source.Source.{Source}
 use Rattle.parquet_plain.specs.Tree.{has_numbers_in_range, is_group, is_flat, is_other_type, is_leaf, children_of, sources_from, leaf_checked, leaves_checked, if_all, sources_in}

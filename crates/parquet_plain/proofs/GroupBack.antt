@@ -115,10 +115,11 @@ leaf_of c place = record { name = refl; kind = refl; optional = optional_is c.nu
 
 -- ---- the columns of a group
 
--- the values of each column can be written and read back
-abbrev pub FitFrom : List (List Datum) → ℕ → List Column → Type 0
-FitFrom rows place [] = Unit {0}
-FitFrom rows place (c ∷ cs) = Whole c (dictionary_of c.kind (column_values place rows)) (column_values place rows) × FitFrom rows (place + 1) cs
+-- the values of each column that is written can be written and read back
+abbrev pub FitFrom : List ℕ → List (List Datum) → ℕ → List Column → Type 0
+FitFrom partition rows place [] = Unit {0}
+FitFrom partition rows place (c ∷ cs) =
+    (is_partition partition place ≡ false → Whole c (dictionary_of c.kind (column_values place rows)) (column_values place rows)) × FitFrom partition rows (place + 1) cs
 
 -- the values of the columns that are written; a partition column has none
 abbrev pub columns_from : List ℕ → List (List Datum) → ℕ → List Column → List (List Datum)
@@ -159,18 +160,18 @@ held c n chunks file values l None e h = absurd (let k : ◌≡◌ {A = Option L
 held c n chunks file values l (Some x) e h = subst (λ y. IsChunk y n chunks file values) (sym (some_inside x l e)) h
 
 columns_back : (file : List ℕ) (partition : List ℕ) (rows : List (List Datum)) (leaves before : List SchemaElement) (chunks told : List ColumnChunk) (at place : ℕ) (cs : List Column) → Small file
-    → Apart cs → FitFrom rows place cs
+    → Apart cs → FitFrom partition rows place cs
     → Stood file leaves before (elements_from partition place cs) chunks told (chunk_entries partition rows at place cs) at (chunks_text partition rows place cs) cs
     → HaveValues (sources_from partition leaves place cs) (length rows) chunks file (columns_from partition rows place cs)
 columns_back file partition rows leaves before chunks told at place [] small apart fit s = refl
 columns_back file partition rows leaves before chunks told at place (c ∷ cs) small apart fit s =
-    by (is_partition partition place) s
+    by (is_partition partition place) refl s
     (λ before told at stood. columns_back file partition rows leaves before chunks told at (place + 1) cs small apart.1 fit.1 stood)
   where
     values : List Datum
     values = column_values place rows
 
-    by : (b : Bool)
+    by : (b : Bool) → is_partition partition place ≡ b
         → Stood file leaves before (if b then elements_from partition (place + 1) cs else element_of c ∷ elements_from partition (place + 1) cs)
         chunks told (if b then chunk_entries partition rows at (place + 1) cs else chunk_entry c values at ∷ chunk_entries partition rows (at + length (chunk_text c values)) (place + 1) cs)
         at (if b then chunks_text partition rows (place + 1) cs else chunk_text c values ++ chunks_text partition rows (place + 1) cs) (c ∷ cs)
@@ -179,13 +180,13 @@ columns_back file partition rows leaves before chunks told at place (c ∷ cs) s
         → HaveValues (sources_from partition leaves (place + 1) cs) (length rows) chunks file (columns_from partition rows (place + 1) cs))
         → HaveValues ((if b then source.Nulls else source_by c (leaf_from c 0 leaves)) ∷ sources_from partition leaves (place + 1) cs) (length rows) chunks file
         ((if b then [] else values) ∷ columns_from partition rows (place + 1) cs)
-    by true t others =
+    by true is t others =
         let rest = others before told at (record { leaves_are = t.leaves_are; chunks_are = t.chunks_are; new_leaves = t.new_leaves.1; new_chunks = t.new_chunks.1; some = t.some; stands = t.stands }) in
         ([], columns_from partition rows (place + 1) cs, refl, rest, refl)
-    by false t others =
+    by false is t others =
         let later = chunks_text partition rows (place + 1) cs in
         let entry = chunk_entry c values at in
-        let p = column_back file rows leaves before (elements_from partition (place + 1) cs) chunks told (chunk_entries partition rows (at + length (chunk_text c values)) (place + 1) cs) at place later c cs small fit.0 t in
+        let p = column_back file rows leaves before (elements_from partition (place + 1) cs) chunks told (chunk_entries partition rows (at + length (chunk_text c values)) (place + 1) cs) at place later c cs small (fit.0 is) t in
         let rest = others (before ++ element_of c ∷ []) (told ++ entry ∷ []) (at + length (chunk_text c values)) (record {
           leaves_are = t.leaves_are ∙ sym (append_assoc before (element_of c ∷ []) (elements_from partition (place + 1) cs));
           chunks_are = t.chunks_are ∙ sym (append_assoc told (entry ∷ []) (chunk_entries partition rows (at + length (chunk_text c values)) (place + 1) cs));
@@ -202,7 +203,7 @@ columns_back file partition rows leaves before chunks told at place (c ∷ cs) s
         )
 
 -- the columns of a group that is written hold what was written
-pub group_columns : (file : List ℕ) (partition : List ℕ) (rows : List (List Datum)) (at : ℕ) (cs : List Column) → Small file → 0 < at → Apart cs → FitFrom rows 0 cs
+pub group_columns : (file : List ℕ) (partition : List ℕ) (rows : List (List Datum)) (at : ℕ) (cs : List Column) → Small file → 0 < at → Apart cs → FitFrom partition rows 0 cs
     → StandsIn file at (chunks_text partition rows 0 cs)
     → HaveValues (sources_from partition (elements_from partition 0 cs) 0 cs) (length rows) (chunk_entries partition rows at 0 cs) file (columns_from partition rows 0 cs)
 group_columns file partition rows at cs small some apart fit s =

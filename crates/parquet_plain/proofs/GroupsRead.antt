@@ -10,7 +10,7 @@ use Rattle.parquet_meta.specs.declared.fault.FileFault.{FileFault}
 use Rattle.parquet_meta.specs.declared.fault.FileFault.TheVariants as faults
 use Rattle.parquet_meta.specs.declared.meta.ColumnChunk.{ColumnChunk}
 use Rattle.parquet_meta.specs.declared.meta.RowGroup.{RowGroup}
-use Rattle.parquet_meta.specs.Faults.{◌>>=◌}
+use Rattle.row_base.specs.Faults.{◌>>=◌}
 use Rattle.parquet_pages.proofs.PagesRead.{number_same, same_number}
 use Rattle.parquet_plain.specs.declared.chunk.Span.{Span}
 use Rattle.parquet_plain.specs.declared.source.Leaf.{Leaf}

@@ -14,3 +14,4 @@ pub mod GroupBack
 pub mod TreeBack
 pub mod FileBack
 pub mod Cells
+pub mod SideBySide

@@ -50,3 +50,7 @@ some_left b (x ∷ xs) e f = omega arith
 
 pub none_left : {A : Type 0} (b : Bool) (xs : List A) → b ≡ (length xs == 0) → b ≡ true → length xs ≡ 0
 none_left b xs e f = eqb-true (length xs) 0 (sym e ∙ f)
+
+pub take_length : {A : Type 0} (xs : List A) → take (length xs) xs ≡ xs
+take_length [] = refl
+take_length (x ∷ xs) = ap (λ r. x ∷ r) (take_length xs)

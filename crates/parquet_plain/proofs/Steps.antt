@@ -1,7 +1,7 @@
 -- Single steps of reading, taken apart and put together.
 use Rattle.std.proofs.Common.{◌≡◌, Bool, true, false, if◌then◌else◌, not, refl, Result, Ok, Err}
 use Rattle.parquet_meta.specs.declared.fault.FileFault.{FileFault}
-use Rattle.parquet_meta.specs.Faults.{◌>>=◌}
+use Rattle.row_base.specs.Faults.{◌>>=◌}
 
 pub bind_ok : {A B : Type 0} (r : Result A FileFault) (f : A → Result B FileFault) (y : B) → (r >>= f) ≡ Ok y → (x : A) × (r ≡ Ok x) × (f x ≡ Ok y)
 bind_ok (Ok x) f y e = (x, refl, e)

@@ -8,7 +8,7 @@ use Rattle.parquet_meta.specs.declared.fault.FileFault.{FileFault}
 use Rattle.parquet_meta.specs.declared.fault.FileFault.TheVariants as faults
 use Rattle.parquet_meta.specs.declared.head.PageAt.{PageAt}
 use Rattle.parquet_meta.specs.declared.head.DictionaryPageHead.{DictionaryPageHead}
-use Rattle.parquet_meta.specs.Faults.{◌>>=◌}
+use Rattle.row_base.specs.Faults.{◌>>=◌}
 use Rattle.parquet_meta.specs.Heads.{page_head_at}
 use Rattle.parquet_pages.specs.Pages.{page_values, page_has_null, dictionary_values}
 use Rattle.parquet_pages.specs.Grammar.{DataPage, DictionaryPage}

@@ -1,13 +1,13 @@
 -- What is written, piece by piece.
-use Rattle.std.proofs.Common.{◌≡◌, ℕ, zero, suc, ◌+◌, ◌-◌, ◌<◌, ◌≤◌, Bool, true, false, List, [], ◌∷◌, ◌++◌, length, take, drop, Option, Some, None, refl, sym, ap, ◌∙◌, arith, append_assoc, append-nil, length-append}
+use Rattle.std.proofs.Common.{◌≡◌, ℕ, zero, suc, ◌+◌, ◌-◌, ◌<◌, ◌≤◌, Bool, true, false, List, [], ◌∷◌, ◌++◌, length, take, drop, cond, unwrap_or, Option, Some, None, refl, sym, ap, ◌∙◌, arith, append_assoc, append-nil, length-append}
 use Rattle.std.specs.List.{All}
 use Rattle.std.proofs.lemmas.List.Elements.{All-take, All-drop}
 use Rattle.row_base.specs.declared.row.Datum.{Datum}
 use Rattle.row_base.specs.declared.schema.Column.{Column}
 use Rattle.row_base.specs.Schema.{TableSchema}
 use Rattle.parquet_meta.specs.declared.meta.RowGroup.{RowGroup}
-use Rattle.parquet_pages.specs.Places.{can_place}
-use Rattle.parquet_plain.specs.Written.{page_of, pages_of, parts_of, page_values_most, AreIn, group_text, groups_text, group_entry, group_entries, groups_of, group_rows_most}
+use Rattle.parquet_pages.specs.Places.{is_null, present, place_of, places_of, can_place}
+use Rattle.parquet_plain.specs.Written.{page_of, pages_of, parts_of, page_values_most, AreIn, ArePlaces, group_text, groups_text, group_entry, group_entries, groups_of, group_rows_most}
 use Rattle.parquet_plain.proofs.Parts.{parts_none, parts_more}
 
 -- ---- pages
@@ -19,6 +19,38 @@ AreIn-take (Some ds) nullable n vs h = All-take (λ v. can_place ds nullable v �
 pub AreIn-drop : (o : Option (List Datum)) (nullable : Bool) (n : ℕ) (vs : List Datum) → AreIn o nullable vs → AreIn o nullable (drop n vs)
 AreIn-drop None nullable n vs h = tt
 AreIn-drop (Some ds) nullable n vs h = All-drop (λ v. can_place ds nullable v ≡ true) n vs h
+
+-- the places of the first values, and those of the values behind them
+places_first : (ds : List Datum) (n : ℕ) (vs : List Datum) → take (present (take n vs)) (places_of ds vs) ≡ places_of ds (take n vs)
+places_first ds zero vs = refl
+places_first ds (suc n) [] = refl
+places_first ds (suc n) (v ∷ vs) = by_null (is_null v) (unwrap_or (place_of ds v) 0) (present (take n vs)) (places_of ds vs) (places_of ds (take n vs)) (places_first ds n vs)
+  where
+    by_null : (b : Bool) (p k : ℕ) (all first : List ℕ) → take k all ≡ first
+        → take (cond b 0 1 + k) (cond b all (p ∷ all)) ≡ cond b first (p ∷ first)
+    by_null true p k all first e = e
+    by_null false p k all first e = let more : 1 + k ≡ suc k = omega arith in ap (λ n. take n (p ∷ all)) more ∙ ap (λ (ps : List ℕ). p ∷ ps) e
+
+places_later : (ds : List Datum) (n : ℕ) (vs : List Datum) → drop (present (take n vs)) (places_of ds vs) ≡ places_of ds (drop n vs)
+places_later ds zero vs = refl
+places_later ds (suc n) [] = refl
+places_later ds (suc n) (v ∷ vs) = by_null (is_null v) (unwrap_or (place_of ds v) 0) (present (take n vs)) (places_of ds vs) (places_of ds (drop n vs)) (places_later ds n vs)
+  where
+    by_null : (b : Bool) (p k : ℕ) (all later : List ℕ) → drop k all ≡ later → drop (cond b 0 1 + k) (cond b all (p ∷ all)) ≡ later
+    by_null true p k all later e = e
+    by_null false p k all later e = let more : 1 + k ≡ suc k = omega arith in ap (λ n. drop n (p ∷ all)) more ∙ e
+
+pub ArePlaces-take : (o : Option (List Datum)) (n : ℕ) (vs page : List Datum) (places here : List ℕ) → page ≡ take n vs → here ≡ take (present page) places
+    → ArePlaces o vs places → ArePlaces o page here
+ArePlaces-take None n vs page places here first e h = tt
+ArePlaces-take (Some ds) n vs page places here first e h =
+    e ∙ ap (λ (k : List Datum). take (present k) places) first ∙ ap (take (present (take n vs))) h ∙ places_first ds n vs ∙ ap (places_of ds) (sym first)
+
+pub ArePlaces-drop : (o : Option (List Datum)) (n : ℕ) (vs page later : List Datum) (places behind : List ℕ) → page ≡ take n vs → later ≡ drop n vs
+    → behind ≡ drop (present page) places → ArePlaces o vs places → ArePlaces o later behind
+ArePlaces-drop None n vs page later places behind first rest e h = tt
+ArePlaces-drop (Some ds) n vs page later places behind first rest e h =
+    e ∙ ap (λ (k : List Datum). drop (present k) places) first ∙ ap (drop (present (take n vs))) h ∙ places_later ds n vs ∙ ap (places_of ds) (sym rest)
 
 -- a page is written, and the pages of the values behind it are left
 pub pages_step : (c : Column) (dictionary : Option (List Datum)) (old new : List ℕ) (rest page later : List Datum) → page ≡ take page_values_most rest → later ≡ drop page_values_most rest → 0 < length rest → new ≡ old ++ page_of c dictionary page

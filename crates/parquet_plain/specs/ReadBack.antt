@@ -1,5 +1,5 @@
 -- What is written is read back.
-use Rattle.std.specs.Prelude.{◌≡◌, ℕ, ◌+◌, ◌≤◌, if◌then◌else◌, List, [], ◌∷◌, length, map, slice_index_or, Ok}
+use Rattle.std.specs.Prelude.{◌≡◌, ℕ, ◌+◌, ◌≤◌, false, if◌then◌else◌, List, [], ◌∷◌, length, map, slice_index_or, Ok}
 use Rattle.std.specs.List.{All}
 use Rattle.row_base.specs.declared.row.Datum.{Datum}
 use Rattle.row_base.specs.declared.row.Datum.TheVariants as datum
@@ -21,8 +21,12 @@ nulled_from partition row place (c ∷ cs) =
 abbrev pub nulled : TableSchema → List Datum → List Datum
 nulled s row = nulled_from s.partition row 0 s.columns
 
--- A file that is written is read as its rows, with null in the partition columns: rows that fit the schema, of values that
--- some bytes read as, for a schema whose names are texts, where the file has at most 67,108,864 bytes.
+-- each datum of a row outside the partition columns is one that some bytes read as
+abbrev pub Returns : TableSchema → List Datum → Type 0
+Returns s row = (place : ℕ) → is_partition s.partition place ≡ false → CanReturn (slice_index_or row place datum.Null)
+
+-- A file that is written is read as its rows, with null in the partition columns: rows that fit the schema, of values that,
+-- outside the partition columns, some bytes read as, for a schema whose names are texts, where the file has at most 67,108,864 bytes.
 abbrev pub FilesReadBack : Type 0
-FilesReadBack = (s : TableSchema) (rows : List (List Datum)) → IsSchema s → All (λ c. IsText c.name) s.columns → All (FitsSchema s) rows → All (All CanReturn) rows
+FilesReadBack = (s : TableSchema) (rows : List (List Datum)) → IsSchema s → All (λ c. IsText c.name) s.columns → All (FitsSchema s) rows → All (Returns s) rows
     → length rows ≤ most_rows → length (file_text s rows) ≤ 67108864 → file_rows s (file_text s rows) ≡ Ok (map (nulled s) rows)

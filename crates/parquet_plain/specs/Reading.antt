@@ -1,5 +1,5 @@
 -- The rows of a file, or the first fault in the order of reading (README.md, "File format"; parquet.thrift).
-use Rattle.std.specs.Prelude.{ℕ, zero, suc, ◌+◌, ◌-◌, ◌==◌, nat_lt, Bool, true, false, not, ◌&&◌, ◌||◌, if◌then◌else◌, List, [], ◌∷◌, ◌++◌, length, replicate, drop, Option, Some, None, is_some, Result, Ok, Err, ℤ, pos, negsuc, unsigned_abs}
+use Rattle.std.specs.Prelude.{ℕ, zero, suc, ◌+◌, ◌-◌, ◌==◌, nat_lt, Bool, true, false, not, ◌&&◌, ◌||◌, if◌then◌else◌, List, [], ◌∷◌, ◌++◌, length, map, replicate, drop, Option, Some, None, is_some, Result, Ok, Err, ℤ, pos, negsuc, unsigned_abs}
 use Rattle.std.specs.List.{find}
 use Rattle.std.specs.Ordering.{int_eq}
 use Rattle.row_base.specs.declared.row.Datum.{Datum}
@@ -14,7 +14,7 @@ use Rattle.parquet_meta.specs.declared.head.DictionaryPageHead.{DictionaryPageHe
 use Rattle.parquet_meta.specs.declared.meta.ColumnChunk.{ColumnChunk}
 use Rattle.parquet_meta.specs.declared.meta.ColumnMetaData.{ColumnMetaData}
 use Rattle.parquet_meta.specs.declared.meta.RowGroup.{RowGroup}
-use Rattle.parquet_meta.specs.Faults.{◌>>=◌}
+use Rattle.row_base.specs.Faults.{◌>>=◌}
 use Rattle.parquet_meta.specs.Footer.{footer_of}
 use Rattle.parquet_meta.specs.Heads.{page_head_at}
 use Rattle.parquet_pages.specs.Pages.{page_values, page_has_null, dictionary_values}
@@ -200,6 +200,11 @@ with_columns rows (vs ∷ vss) = with_columns (with_column rows vs) vss
 -- so many rows: the columns side by side
 unfoldable pub side_by_side : ℕ → List (List Datum) → List (List Datum)
 side_by_side count columns = with_columns (replicate count []) columns
+
+-- so many rows, a row at a time: the first value of each column, and the rows of what is behind these
+abbrev pub row_by_row : ℕ → List (List Datum) → List (List Datum)
+row_by_row zero columns = []
+row_by_row (suc count) columns = map head_or_null columns ∷ row_by_row count (map (drop 1) columns)
 
 -- the most rows of a file
 abbrev pub most_rows : ℕ

@@ -10,7 +10,7 @@ use Rattle.row_base.specs.Schema.{TableSchema}
 use Rattle.parquet_meta.specs.declared.fault.FileFault.{FileFault}
 use Rattle.parquet_meta.specs.declared.fault.FileFault.TheVariants as faults
 use Rattle.parquet_meta.specs.declared.meta.SchemaElement.{SchemaElement}
-use Rattle.parquet_meta.specs.Faults.{◌>>=◌}
+use Rattle.row_base.specs.Faults.{◌>>=◌}
 use Rattle.parquet_plain.specs.declared.source.Leaf.{Leaf}
 use Rattle.parquet_plain.specs.declared.source.Source.{Source}
 use Rattle.parquet_plain.specs.declared.source.Source.TheVariants as source

@@ -14,7 +14,7 @@ use Rattle.parquet_meta.specs.declared.meta.SchemaElement.{SchemaElement}
 use Rattle.parquet_meta.specs.declared.meta.RowGroup.{RowGroup}
 use Rattle.parquet_meta.specs.declared.meta.ColumnChunk.{ColumnChunk}
 use Rattle.parquet_meta.specs.Written.{head_text, footer_text}
-use Rattle.parquet_pages.specs.Places.{dictionary_of, can_place}
+use Rattle.parquet_pages.specs.Places.{dictionary_of, can_place, places_of}
 use Rattle.parquet_pages.specs.Written.{page_text, dictionary_text, index_text, CanStand}
 use Rattle.parquet_plain.specs.Tree.{is_partition, physical_of}
 
@@ -75,6 +75,11 @@ DictionaryStands k (Some ds) = All (CanStand k false) ds
 abbrev pub AreIn : Option (List Datum) → Bool → List Datum → Type 0
 AreIn None nullable vs = Unit {0}
 AreIn (Some ds) nullable vs = All (λ v. can_place ds nullable v ≡ true) vs
+
+-- the places of values in the dictionary of a chunk, where it has one
+abbrev pub ArePlaces : Option (List Datum) → List Datum → List ℕ → Type 0
+ArePlaces None vs places = Unit {0}
+ArePlaces (Some ds) vs places = places ≡ places_of ds vs
 
 -- a data page of these values, with or without the dictionary of its chunk
 unfoldable pub page_of : Column → Option (List Datum) → List Datum → List ℕ

@@ -7,9 +7,9 @@ ghost use Rattle.parquet_plain.specs.Written as spec;
 
 use crate::page_writer::{append_front, append_pages};
 use crate::tree::physical_of;
-use parquet_meta::{ColumnChunk, ColumnMetaData, Items};
-use parquet_pages::Dictionary;
-use row_base::{Column, Datum, NoMemory, Row, Text, Texts};
+use parquet_meta::{ColumnChunk, ColumnMetaData};
+use parquet_pages::{Dictionary, Indexed};
+use row_base::{Column, Datum, Items, NoMemory, RowSlice, Text};
 use std::alloc::Global;
 
 /// The encodings of a chunk's pages and levels: PLAIN and RLE, and RLE_DICTIONARY where it has a dictionary.
@@ -17,8 +17,8 @@ fn encodings_of(alloc: Global, dictionary: &Option<Dictionary>) -> Result<Items<
     ensures { IfOk result (λ v. v ≡ spec.encodings_of dictionary.now) }
 {
     match dictionary {
-        Some(_) => Ok(Items::make(vec![in alloc; 0, 3, 8]?)),
-        None => Ok(Items::make(vec![in alloc; 0, 3]?)),
+        Some(_) => Ok(Items::from_vec(vec![in alloc; 0, 3, 8]?)),
+        None => Ok(Items::from_vec(vec![in alloc; 0, 3]?)),
     }
 }
 
@@ -33,12 +33,12 @@ fn place_if(at: i64, dictionary: &Option<Dictionary>) -> Option<i64>
 }
 
 /// The path of a column below the root.
-fn path_of(alloc: Global, name: &Text) -> Result<Texts, NoMemory>
+fn path_of(alloc: Global, name: &Text) -> Result<Items<Text>, NoMemory>
     ensures { IfOk result (λ p. p ≡ name.now ∷ []) }
 {
     let mut path = Vec::with_capacity(alloc, 1)?;
     path.push(name.copy()?)?;
-    Ok(Texts::make(path))
+    Ok(Items::from_vec(path))
 }
 
 /// What the footer says of a chunk of so many values and bytes, which stands at `at`, and its data pages at `data_at`.
@@ -70,17 +70,19 @@ fn entry_of(
     })
 }
 
-/// The chunk of a column with or without a dictionary, and what the footer says of it.
+/// The chunk of a column with or without a dictionary and the places in it, and what the footer says of it.
 #[tactic(auto, unfolding(crate::specs::Written::chunk_text_by, crate::specs::Written::chunk_entry_by))]
 fn append_by(
     alloc: Global,
     column: &Column,
     dictionary: &Option<Dictionary>,
+    places: &[u32],
     values: &[Datum],
     out: &mut Vec<u8>,
 ) -> Result<ColumnChunk, NoMemory>
     requires stand { All (CanStand column.now.kind column.now.nullable) values.now }
     requires placed { spec.AreIn dictionary.now column.now.nullable values.now }
+    requires places { spec.ArePlaces dictionary.now values.now places.now }
     requires front { spec.DictionaryStands column.now.kind dictionary.now }
     ensures text { OnOk result (out.new.items ≡ out.old.items ++ spec.chunk_text_by column.now dictionary.now values.now) }
     ensures entry { IfOk result (λ c. c ≡ spec.chunk_entry_by column.now dictionary.now values.now (length out.old.items)) }
@@ -88,7 +90,7 @@ fn append_by(
     let at = out.len();
     append_front(alloc, column, dictionary, out)?;
     let data_at = out.len();
-    append_pages(alloc, column, dictionary, values, out)?;
+    append_pages(alloc, column, dictionary, places, values, out)?;
     let size = out.len() - at;
     entry_of(
         alloc,
@@ -114,17 +116,20 @@ pub(crate) fn append_chunk(
     ensures text { OnOk result (out.new.items ≡ out.old.items ++ spec.chunk_text column.now values.now) }
     ensures entry { IfOk result (λ c. c ≡ spec.chunk_entry column.now values.now (length out.old.items)) }
 {
-    let dictionary = Dictionary::of(alloc, column.kind, values)?;
-    append_by(alloc, column, &dictionary, values, out)
+    match Dictionary::of(alloc, column.kind, values)? {
+        Some(Indexed { dictionary, places }) => {
+            append_by(alloc, column, &Some(dictionary), &places, values, out)
+        }
+        None => append_by(alloc, column, &None, &[], values, out),
+    }
 }
 
 /// The datum at a place of a row, which is null where the row lacks it.
-fn datum_at(row: &Row, place: usize) -> Result<Datum, NoMemory>
+fn datum_at(row: &[Datum], place: usize) -> Result<Datum, NoMemory>
     ensures { IfOk result (λ d. d ≡ slice_index_or row.now place datum.Null) }
 {
-    let data = row.as_slice();
-    if place < data.len() {
-        data[place].copy()
+    if place < row.len() {
+        row[place].copy()
     } else {
         Ok(Datum::Null)
     }
@@ -134,9 +139,9 @@ fn datum_at(row: &Row, place: usize) -> Result<Datum, NoMemory>
 pub(crate) fn column_values(
     alloc: Global,
     place: usize,
-    rows: &[Row],
+    rows: RowSlice<'_>,
 ) -> Result<Vec<Datum>, NoMemory>
-    ensures { IfOk result (λ v. v.items ≡ spec.column_values place rows.now) }
+    ensures { IfOk result (λ v. v.items ≡ spec.column_values place rows) }
 {
     let mut values = Vec::with_capacity(alloc, rows.len())?;
     for row in rows {

@@ -5,14 +5,12 @@ ghost use Rattle.parquet_plain.specs.Reading as spec;
 
 use crate::chunk::{chunk_of, span_of};
 use crate::pages::chunk_values;
-use crate::rows::side_by_side;
+use crate::rows::append_side_by_side;
 use crate::source::{Leaf, Source};
-use parquet_meta::{ColumnChunk, FileFault, Items, RowGroup};
-use row_base::{Datum, Row, Text};
+use parquet_meta::{ColumnChunk, FileFault, RowGroup};
+use row_base::limits::MAX_FILE_ROWS;
+use row_base::{Datum, Items, Rows, Text};
 use std::alloc::Global;
-
-/// The most rows of a file.
-const MAX_ROWS: usize = 16_777_216;
 
 /// The values of a leaf in a group of so many rows.
 #[tactic(auto, unfolding(crate::specs::Reading::leaf_values))]
@@ -51,12 +49,12 @@ fn source_values(
         Source::Lacking { name } if rows != 0 => Err(FileFault::Shape {
             column: name.copy()?,
         }),
-        _ => Ok(Items::make(Vec::new(alloc))),
+        _ => Ok(Items::from_vec(Vec::new(alloc))),
     }
 }
 
 /// The values of each column.
-pub(crate) fn columns_values(
+fn columns_values(
     alloc: Global,
     sources: &[Source],
     rows: usize,
@@ -73,10 +71,10 @@ pub(crate) fn columns_values(
 }
 
 /// How many rows a group has behind so many others, where there are no more than a file may have.
-pub(crate) fn rows_of(name: &Text, before: usize, number: i64) -> Result<usize, FileFault>
+fn rows_of(name: &Text, before: usize, number: i64) -> Result<usize, FileFault>
     ensures { Reads result (spec.rows_of name.now before number) }
 {
-    if 0 <= number && before <= MAX_ROWS && number <= (MAX_ROWS - before) as i64 {
+    if 0 <= number && before <= MAX_FILE_ROWS && number <= (MAX_FILE_ROWS - before) as i64 {
         Ok(number as usize)
     } else {
         Err(FileFault::Shape {
@@ -85,38 +83,22 @@ pub(crate) fn rows_of(name: &Text, before: usize, number: i64) -> Result<usize, 
     }
 }
 
-/// The rows of a group, behind so many others.
-#[tactic(auto, unfolding(crate::specs::Reading::group_rows))]
-fn group_rows(
-    alloc: Global,
-    name: &Text,
-    sources: &[Source],
-    file: &[u8],
-    before: usize,
-    group: &RowGroup,
-) -> Result<Vec<Row>, FileFault>
-    ensures { MatchResult result (λ v. spec.group_rows name.now sources.now file.now before group.now ≡ Ok v.items) (λ e. FaultOf e (spec.group_rows name.now sources.now file.now before group.now)) }
-{
-    let count = rows_of(name, before, group.num_rows)?;
-    let columns = columns_values(alloc, sources, count, group.columns.as_slice(), file)?;
-    let rows = side_by_side(alloc, count, columns)?;
-    Ok(rows)
-}
-
 /// The rows of all groups.
+#[tactic(auto, unfolding(crate::specs::Reading::group_rows))]
 pub(crate) fn groups_rows(
     alloc: Global,
     name: &Text,
     sources: &[Source],
     file: &[u8],
     groups: &[RowGroup],
-) -> Result<Vec<Row>, FileFault>
-    ensures { MatchResult result (λ v. spec.with_groups name.now sources.now file.now [] groups.now ≡ Ok v.items) (λ e. FaultOf e (spec.with_groups name.now sources.now file.now [] groups.now)) }
+) -> Result<Rows, FileFault>
+    ensures { Reads result (spec.with_groups name.now sources.now file.now [] groups.now) }
 {
-    let mut rows = Vec::new(alloc);
+    let mut rows = Rows::new(alloc);
     for group in groups {
-        let mut more = group_rows(alloc, name, sources, file, rows.len(), group)?;
-        rows.append(&mut more)?;
+        let count = rows_of(name, rows.len(), group.num_rows)?;
+        let columns = columns_values(alloc, sources, count, group.columns.as_slice(), file)?;
+        append_side_by_side(alloc, count, columns, &mut rows)?;
     }
     Ok(rows)
 }

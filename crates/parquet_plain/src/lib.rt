@@ -9,12 +9,9 @@ mod groups;
 mod laws;
 mod page_writer;
 mod pages;
-mod plain;
 mod reading;
 mod rows;
 mod source;
-#[cfg(test)]
-mod tests;
 mod tree;
 mod writing;
 

@@ -2,11 +2,12 @@
 ghost use Rattle.std.specs.Prelude.{◌≡◌, ◌++◌, ◌≤◌, ◌^◌, ◌<◌, length, take, drop, pos, IfOk, OnOk};
 ghost use Rattle.std.specs.List.{All};
 ghost use Rattle.parquet_meta.specs.Written.{head_text};
+ghost use Rattle.parquet_pages.specs.Places.{present};
 ghost use Rattle.parquet_pages.specs.Written.{CanStand};
 ghost use Rattle.parquet_plain.specs.Written as spec;
 
 use parquet_meta::{DataPageHead, DictionaryPageHead, PageHead, write_page_head};
-use parquet_pages::{Dictionary, write_page};
+use parquet_pages::{Dictionary, count_present, write_page};
 use row_base::{Column, Datum, NoMemory};
 use std::alloc::Global;
 
@@ -93,17 +94,19 @@ fn append_values(
     alloc: Global,
     column: &Column,
     dictionary: &Option<Dictionary>,
+    places: &[u32],
     values: &[Datum],
     out: &mut Vec<u8>,
 ) -> Result<(), NoMemory>
     requires few { length values.now ≤ 4096 }
     requires stand { All (CanStand column.now.kind column.now.nullable) values.now }
     requires placed { spec.AreIn dictionary.now column.now.nullable values.now }
+    requires places { spec.ArePlaces dictionary.now values.now places.now }
     ensures { OnOk result (out.new.items ≡ out.old.items ++ spec.page_of column.now dictionary.now values.now) }
 {
     match dictionary {
         Some(dictionary) => {
-            let body = dictionary.indices(alloc, column.nullable, values)?;
+            let body = dictionary.indices(alloc, column.nullable, values, places)?;
             append_data_page(alloc, 8, values.len(), &body, out)
         }
         None => {
@@ -124,23 +127,37 @@ fn next_page(values: &[Datum]) -> (&[Datum], &[Datum])
     values.split_at(values.len().min(PAGE_VALUES))
 }
 
+/// The places of a page's values, and those behind them.
+#[tactic(auto, using(crate::proofs::Parts::take_min, crate::proofs::Parts::drop_min))]
+fn next_places<'a>(page: &[Datum], places: &'a [u32]) -> (&'a [u32], &'a [u32])
+    ensures page { result.0.now ≡ take (present page.now) places.now }
+    ensures later { result.1.now ≡ drop (present page.now) places.now }
+{
+    places.split_at(places.len().min(count_present(page)))
+}
+
 /// The data pages of a chunk.
 pub(crate) fn append_pages(
     alloc: Global,
     column: &Column,
     dictionary: &Option<Dictionary>,
+    places: &[u32],
     values: &[Datum],
     out: &mut Vec<u8>,
 ) -> Result<(), NoMemory>
     requires stand { All (CanStand column.now.kind column.now.nullable) values.now }
     requires placed { spec.AreIn dictionary.now column.now.nullable values.now }
+    requires places { spec.ArePlaces dictionary.now values.now places.now }
     ensures { OnOk result (out.new.items ≡ out.old.items ++ spec.pages_of column.now dictionary.now (spec.parts_of spec.page_values_most values.now)) }
 {
     let mut rest = values;
+    let mut places = places;
     while !rest.is_empty() {
         let (page, later) = next_page(rest);
-        append_values(alloc, column, dictionary, page, out)?;
+        let (here, behind) = next_places(page, places);
+        append_values(alloc, column, dictionary, here, page, out)?;
         rest = later;
+        places = behind;
     }
     Ok(())
 }

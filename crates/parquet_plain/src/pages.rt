@@ -6,9 +6,9 @@ ghost use Rattle.parquet_plain.specs.Reading as spec;
 
 use crate::chunk::Span;
 use crate::source::Leaf;
-use parquet_meta::{DataPageHead, DictionaryPageHead, FileFault, Items, PageAt, read_page_head};
+use parquet_meta::{DataPageHead, DictionaryPageHead, FileFault, PageAt, read_page_head};
 use parquet_pages::{page_has_null, read_dictionary, read_page};
-use row_base::{Datum, NoMemory};
+use row_base::{Datum, Items, NoMemory};
 use std::alloc::Global;
 
 /// How far the pages of a chunk are read.
@@ -119,7 +119,7 @@ fn with_dictionary(
     Ok(Walk {
         at: page.body + page.head.compressed_page_size.unsigned_abs() as usize,
         values: walk.values,
-        dictionary: Some(Items::make(dictionary)),
+        dictionary: Some(Items::from_vec(dictionary)),
     })
 }
 
@@ -146,7 +146,7 @@ fn page_values(
         }
         None => read_page(alloc, leaf.kind, leaf.optional, page, file, None)?,
     };
-    Ok(Items::make(values))
+    Ok(Items::from_vec(values))
 }
 
 /// These values, and behind them further ones.
@@ -156,7 +156,7 @@ fn joined(values: Items<Datum>, more: Items<Datum>) -> Result<Items<Datum>, NoMe
     let mut values = values.into_vec();
     let mut more = more.into_vec();
     values.append(&mut more)?;
-    Ok(Items::make(values))
+    Ok(Items::from_vec(values))
 }
 
 /// The walk behind a data page that has its place in the chunk.
@@ -237,7 +237,7 @@ fn with_pages(
 {
     let mut walk = Walk {
         at: span.begins,
-        values: Items::make(Vec::new(alloc)),
+        values: Items::from_vec(Vec::new(alloc)),
         dictionary: None,
     };
     for _byte in span.begins..span.ends {

@@ -1,16 +1,16 @@
 //! The rows of a file.
-ghost use Rattle.std.specs.Prelude.{◌≡◌, Ok, IfOk, MatchResult};
-ghost use Rattle.parquet_meta.specs.Faults.{FaultOf};
+ghost use Rattle.std.specs.Prelude.{◌≡◌, IfOk};
+ghost use Rattle.parquet_meta.specs.Faults.{Reads};
 ghost use Rattle.parquet_plain.specs.Reading as spec;
 
 use crate::groups::groups_rows;
 use crate::tree::read_tree;
 use parquet_meta::{FileFault, read_footer};
-use row_base::{NoMemory, Row, Schema, Text};
+use row_base::{NoMemory, Rows, Schema, Text};
 use std::alloc::Global;
 
 /// The name of the first column that is no partition column.
-pub(crate) fn first_name(alloc: Global, schema: &Schema) -> Result<Text, NoMemory>
+fn first_name(alloc: Global, schema: &Schema) -> Result<Text, NoMemory>
     ensures { IfOk result (λ t. t ≡ spec.first_name schema.now.partition 0 schema.now.columns) }
 {
     for (i, column) in schema.columns().iter().enumerate() {
@@ -30,8 +30,8 @@ pub(crate) fn first_name(alloc: Global, schema: &Schema) -> Result<Text, NoMemor
 /// the place of a head or of a body, `Encoding`, `PageKind`, `Shape`). A group with which there are more than 16,777,216
 /// rows is `Shape` of the first column that is no partition column.
 #[tactic(auto, unfolding(crate::specs::Reading::file_rows))]
-pub fn read_file(alloc: Global, schema: &Schema, bytes: &[u8]) -> Result<Vec<Row>, FileFault>
-    ensures { MatchResult result (λ v. spec.file_rows schema.now bytes.now ≡ Ok v.items) (λ e. FaultOf e (spec.file_rows schema.now bytes.now)) }
+pub fn read_file(alloc: Global, schema: &Schema, bytes: &[u8]) -> Result<Rows, FileFault>
+    ensures { Reads result (spec.file_rows schema.now bytes.now) }
 {
     let meta = read_footer(alloc, bytes)?;
     let sources = read_tree(alloc, schema, meta.schema.as_slice())?;

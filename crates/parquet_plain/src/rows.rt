@@ -1,31 +1,10 @@
 //! Rows from the values of columns.
-ghost use Rattle.std.specs.Prelude.{◌≡◌, [], replicate, IfOk, ◌++◌, ◌∷◌, drop};
+ghost use Rattle.std.specs.Prelude.{◌≡◌, ◌++◌, [], drop, map, IfOk, OnOk};
 ghost use Rattle.parquet_plain.specs.Reading as spec;
 
-use parquet_meta::Items;
-use row_base::{Datum, NoMemory, Row};
+use row_base::{Datum, Items, NoMemory, Rows};
 use std::alloc::Global;
 use std::collections::VecDeque;
-
-/// So many rows without data, each with room for as many.
-fn bare_rows(alloc: Global, count: usize, columns: usize) -> Result<Vec<Row>, NoMemory>
-    ensures { IfOk result (λ v. v.items ≡ replicate count []) }
-{
-    let mut rows = Vec::with_capacity(alloc, count)?;
-    for _row in 0..count {
-        rows.push(Row::make(Vec::with_capacity(alloc, columns)?))?;
-    }
-    Ok(rows)
-}
-
-/// A row and a further datum.
-fn with_datum(row: Row, datum: Datum) -> Result<Row, NoMemory>
-    ensures { IfOk result (λ r. r ≡ row ++ datum ∷ []) }
-{
-    let mut data = row.into_vec();
-    data.push(datum)?;
-    Ok(Row::make(data))
-}
 
 /// The first of these values, taken out, or null where there is none.
 fn next_value(values: &mut VecDeque<Datum>) -> Datum
@@ -38,31 +17,55 @@ fn next_value(values: &mut VecDeque<Datum>) -> Datum
     }
 }
 
-/// Each row with a further value, which is null where there is none.
-fn with_column(alloc: Global, rows: Vec<Row>, values: Vec<Datum>) -> Result<Vec<Row>, NoMemory>
-    ensures { IfOk result (λ v. v.items ≡ spec.with_column rows.items values.items) }
+/// The first value of each column, taken out and put behind the data of a row.
+fn take_row(columns: &mut [VecDeque<Datum>], row: &mut Vec<Datum>) -> Result<(), NoMemory>
+    ensures row { OnOk result (row.new.items ≡ row.old.items ++ map (λ c. spec.head_or_null c.items) columns.old) }
+    ensures rest { OnOk result (map (λ c. c.items) columns.new ≡ map (λ c. drop 1 c.items) columns.old) }
 {
-    let mut longer = Vec::with_capacity(alloc, rows.len())?;
-    let mut values = VecDeque::from_vec(values);
-    for row in rows {
-        let value = next_value(&mut values);
-        longer.push(with_datum(row, value)?)?;
+    for column in columns.iter_mut() {
+        row.push(next_value(column))?;
     }
-    Ok(longer)
+    Ok(())
 }
 
-/// So many rows: the columns side by side.
-#[tactic(auto, unfolding(crate::specs::Reading::side_by_side))]
-pub(crate) fn side_by_side(
+/// The columns, to be taken from.
+fn queues(alloc: Global, columns: Vec<Items<Datum>>) -> Result<Vec<VecDeque<Datum>>, NoMemory>
+    ensures { IfOk result (λ q. map (λ c. c.items) q.items ≡ columns.items) }
+{
+    let mut queues = Vec::with_capacity(alloc, columns.len())?;
+    for column in columns {
+        queues.push(VecDeque::from_vec(column.into_vec()))?;
+    }
+    Ok(queues)
+}
+
+/// Puts so many rows behind the others, each of the next value of each column. The list for a row's data is empty before.
+fn push_rows(
+    count: usize,
+    columns: &mut [VecDeque<Datum>],
+    row: &mut Vec<Datum>,
+    rows: &mut Rows,
+) -> Result<(), NoMemory>
+    requires { row.old.items ≡ [] }
+    ensures { OnOk result (rows.new ≡ rows.old ++ spec.row_by_row count (map (λ c. c.items) columns.old)) }
+{
+    for _row in 0..count {
+        take_row(columns, row)?;
+        rows.push_from(row)?;
+    }
+    Ok(())
+}
+
+/// Puts so many rows behind the others: the columns side by side.
+pub(crate) fn append_side_by_side(
     alloc: Global,
     count: usize,
     columns: Vec<Items<Datum>>,
-) -> Result<Vec<Row>, NoMemory>
-    ensures { IfOk result (λ v. v.items ≡ spec.side_by_side count columns.items) }
+    rows: &mut Rows,
+) -> Result<(), NoMemory>
+    ensures { OnOk result (rows.new ≡ rows.old ++ spec.side_by_side count columns.items) }
 {
-    let mut rows = bare_rows(alloc, count, columns.len())?;
-    for values in columns {
-        rows = with_column(alloc, rows, values.into_vec())?;
-    }
-    Ok(rows)
+    let mut row = Vec::with_capacity(alloc, columns.len())?;
+    let mut queues = queues(alloc, columns)?;
+    push_rows(count, queues.as_mut_slice(), &mut row, rows)
 }

@@ -7,8 +7,8 @@ ghost use Rattle.parquet_meta.specs.Written.{footer_text};
 
 use crate::element_writer::elements_of;
 use crate::group_writer::append_groups;
-use parquet_meta::{FileMeta, Items, RowGroup, write_footer};
-use row_base::{NoMemory, Row, Schema};
+use parquet_meta::{FileMeta, RowGroup, write_footer};
+use row_base::{Items, NoMemory, Rows, Schema};
 use std::alloc::Global;
 
 /// The first and the last bytes of a file.
@@ -37,7 +37,7 @@ fn append_footer(alloc: Global, meta: &FileMeta, out: &mut Vec<u8>) -> Result<()
 fn meta_of(
     alloc: Global,
     schema: &Schema,
-    rows: &[Row],
+    rows: &Rows,
     groups: Vec<RowGroup>,
 ) -> Result<FileMeta, NoMemory>
     requires { groups.items ≡ spec.group_entries schema.now 4 (spec.groups_of rows.now) }
@@ -45,9 +45,9 @@ fn meta_of(
 {
     Ok(FileMeta {
         version: Some(1),
-        schema: Items::make(elements_of(alloc, schema)?),
+        schema: Items::from_vec(elements_of(alloc, schema)?),
         num_rows: rows.len() as i64,
-        row_groups: Items::make(groups),
+        row_groups: Items::from_vec(groups),
     })
 }
 
@@ -56,14 +56,14 @@ fn meta_of(
 /// body of 2^31 bytes or more, which texts of at most 65,535 bytes never make, is refused as one for which no memory is
 /// left.
 #[tactic(auto, unfolding(crate::specs::Written::file_text))]
-pub fn write_file(alloc: Global, schema: &Schema, rows: &[Row]) -> Result<Vec<u8>, NoMemory>
+pub fn write_file(alloc: Global, schema: &Schema, rows: &Rows) -> Result<Vec<u8>, NoMemory>
     requires few { length rows.now ≤ 16777216 }
     requires fits { All (FitsSchema schema.now) rows.now }
     ensures { IfOk result (λ v. v.items ≡ spec.file_text schema.now rows.now) }
 {
     let mut out = Vec::new(alloc);
     out.extend_from_slice(MAGIC)?;
-    let groups = append_groups(alloc, schema, rows, &mut out)?;
+    let groups = append_groups(alloc, schema, rows.iter(), &mut out)?;
     let meta = meta_of(alloc, schema, rows, groups)?;
     append_footer(alloc, &meta, &mut out)?;
     Ok(out)

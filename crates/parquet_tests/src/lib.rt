@@ -4,6 +4,10 @@
 #[cfg(test)]
 mod bits;
 #[cfg(test)]
+mod files;
+#[cfg(test)]
 mod meta;
+#[cfg(test)]
+mod pages;
 #[cfg(test)]
 mod thrift;

@@ -22,7 +22,7 @@ use Rattle.parquet_meta.specs.declared.fault.FileFault.TheVariants as faults
 use Rattle.parquet_pages.specs.Grammar.{IsText}
 use Rattle.parquet_pages.specs.ReadBack.{CanReturn}
 use Rattle.parquet_plain.specs.Reading.{file_rows}
-use Rattle.parquet_plain.specs.ReadBack.{nulled}
+use Rattle.parquet_plain.specs.ReadBack.{nulled, Returns}
 use Rattle.parquet_plain.specs.Written.{file_text}
 use Rattle.parquet_plain.proofs.FileBack.{files_read_back}
 use Rattle.parquet_plain.proofs.FilesRead.{files_are_read}
@@ -106,9 +106,15 @@ rows_return table from (suc count) few =
     All-cons (All CanReturn) (numbered_row table from) (map (numbered_row table) (range_with_len (from + 1) count))
     (row_returns table from (state_after (suc from)) (omega arith) (states_below (suc from))) (rows_return table (from + 1) count (omega arith))
 
-all_return : (table : Table) (count : ℕ) → count < 2 ^ 32 → All (All CanReturn) (rows_of table count)
+-- and so each datum outside the partition columns, and what a row lacks, which is null
+any_returns : (row : List Datum) (place : ℕ) → All CanReturn row → CanReturn (get_or row place datum.Null)
+any_returns [] place all = tt
+any_returns (d ∷ ds) zero all = all 0 d (omega arith)
+any_returns (d ∷ ds) (suc place) all = any_returns ds place (λ i e lt. all (suc i) e (omega (arith, lt)))
+
+all_return : (s : TableSchema) (table : Table) (count : ℕ) → count < 2 ^ 32 → All (Returns s) (rows_of table count)
 unfolding rows_of
-all_return table count few = rows_return table 0 count (omega arith)
+all_return s table count few = λ i row lt place written. any_returns (get_or (map (numbered_row table) (range_with_len 0 count)) i row) place (rows_return table 0 count (omega arith) i row lt)
 
 -- ---- the schema
 
@@ -172,7 +178,7 @@ file_back : (table : Table) (count : ℕ) → count < 2 ^ 32 → count ≤ 16777
     → file_rows (schema_of table) (file_text (schema_of table) (rows_of table count)) ≡ Ok (map (nulled (schema_of table)) (rows_of table count))
 file_back table count low few small =
     let made = rows_of table count in
-    files_read_back (schema_of table) made (schema_is table) (named table) (all_fit table count) (all_return table count low) (rw (length-rows_of table count) few) small
+    files_read_back (schema_of table) made (schema_is table) (named table) (all_fit table count) (all_return (schema_of table) table count low) (rw (length-rows_of table count) few) small
 
 pub back_count : (table : Table) (count : ℕ) (rows : List (List Datum)) (file : List ℕ) → count < 2 ^ 32 → count ≤ 16777216
     → file ≡ file_text (schema_of table) (rows_of table count) → file_rows (schema_of table) file ≡ Ok rows → length rows ≡ count

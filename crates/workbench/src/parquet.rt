@@ -1,12 +1,12 @@
 //! What Parquet files read as.
 
-ghost use Rattle.std.specs.Prelude.{◌≡◌, ◌%◌, ◌^◌, length, count_by, option_map, filter_map, IfOk, MatchResult, string_bytes};
-ghost use Rattle.parquet_meta.specs.Faults.{FaultOf};
+ghost use Rattle.std.specs.Prelude.{◌≡◌, ◌%◌, ◌^◌, count_by, filter_map, IfOk, MatchResult, string_bytes};
+ghost use Rattle.parquet_meta.specs.Faults.{Reads};
 ghost use Rattle.workbench.specs.Parquet as spec;
 
 use parquet_meta::{FileFault, SchemaElement, read_footer};
 use parquet_plain::read_file;
-use row_base::{Column, Datum, Kind, Row, Schema};
+use row_base::{Column, Datum, Kind, Rows, Schema};
 use std::alloc::{AllocError, Global};
 
 /// What a file reads as, for a table of the columns in its own schema that have a kind: the number of rows and of nulls in
@@ -21,11 +21,11 @@ pub fn file_text(alloc: Global, bytes: &[u8]) -> Result<String, AllocError>
 }
 
 /// The text of what was read.
-fn found_text(alloc: Global, found: Option<Vec<Row>>) -> Result<String, AllocError>
-    ensures { IfOk result (λ text. string_bytes text ≡ spec.found_text (option_map (λ rows. rows.items) found)) }
+fn found_text(alloc: Global, found: Option<Rows>) -> Result<String, AllocError>
+    ensures { IfOk result (λ text. string_bytes text ≡ spec.found_text (found)) }
 {
     match found {
-        Some(rows) => rows_text(alloc, rows.len(), count_nulls(rows.as_slice())),
+        Some(rows) => rows_text(alloc, rows.len(), count_nulls(&rows)),
         None => format!(in alloc; "no table"),
     }
 }
@@ -49,8 +49,8 @@ fn rows_text(alloc: Global, count: usize, nulls: u64) -> Result<String, AllocErr
 
 /// The rows of a file for the table of its own columns, or `None` where these make no schema.
 #[tactic(auto, unfolding(crate::specs::Parquet::rows_in))]
-fn rows_in(alloc: Global, bytes: &[u8]) -> Result<Option<Vec<Row>>, FileFault>
-    ensures { MatchResult result (λ rows. spec.rows_in bytes.now ≡ Ok (option_map (λ v. v.items) rows)) (λ e. FaultOf e (spec.rows_in bytes.now)) }
+fn rows_in(alloc: Global, bytes: &[u8]) -> Result<Option<Rows>, FileFault>
+    ensures { Reads result (spec.rows_in bytes.now) }
 {
     let meta = read_footer(alloc, bytes)?;
     match schema_of(alloc, meta.schema.as_slice())? {
@@ -111,12 +111,12 @@ fn kind_of(physical: Option<i64>, converted: Option<i64>) -> Option<Kind>
 }
 
 /// How many data of the rows are null, in 64 bits.
-fn count_nulls(rows: &[Row]) -> u64
+fn count_nulls(rows: &Rows) -> u64
     ensures { result ≡ spec.null_count rows.now % 2 ^ 64 }
 {
     let mut count: u64 = 0;
-    for row in rows {
-        count = count.wrapping_add(row_nulls(row.as_slice()) as u64);
+    for row in rows.iter() {
+        count = count.wrapping_add(row_nulls(row) as u64);
     }
     count
 }

@@ -1,6 +1,6 @@
 //! Tables whose Parquet files are timed.
 
-ghost use Rattle.std.specs.Prelude.{◌≡◌, ◌⊎◌, ◌<◌, ◌≤◌, ◌%◌, ◌∷◌, [], IfOk, IfErr, OnOk, Ok, List, length, string_bytes};
+ghost use Rattle.std.specs.Prelude.{◌≡◌, ◌⊎◌, ◌<◌, ◌≤◌, ◌%◌, ◌++◌, IfOk, IfErr, OnOk, Ok, List, length, string_bytes};
 ghost use Rattle.row_base.specs.declared.row.Datum.{Datum as DatumValue};
 ghost use Rattle.parquet_meta.specs.Faults.{FaultOf};
 ghost use Rattle.parquet_meta.specs.declared.fault.FileFault.{FileFault};
@@ -12,11 +12,9 @@ use crate::failed::Failed;
 use crate::register::{FIRST_STATE, next_state};
 use crate::words::{Step, Table};
 use parquet_plain::{read_file, write_file};
-use row_base::{Column, Datum, Kind, NoMemory, Row, Schema, Text};
+use row_base::limits::MAX_FILE_ROWS;
+use row_base::{Column, Datum, Kind, NoMemory, Rows, Schema, Text};
 use std::alloc::{AllocError, Global};
-
-/// The most rows of a file.
-const MOST_ROWS: u32 = 16_777_216;
 
 /// How many texts the table of repeated texts has.
 const WORDS: u64 = 100;
@@ -43,12 +41,12 @@ fn file_of(alloc: Global, table: Table, count: u32) -> Result<Vec<u8>, Failed>
     ensures few { OnOk result (count ≤ 16777216) }
     ensures err { IfErr result (λ e. (e ≡ Failed.NoMemory) ⊎ ((e ≡ Failed.Rows) × (16777216 < count))) }
 {
-    if count > MOST_ROWS {
+    if count as usize > MAX_FILE_ROWS {
         return Err(Failed::Rows);
     }
     let schema = schema_of(alloc, table)?;
     let rows = rows_of(alloc, table, count)?;
-    Ok(write_file(alloc, &schema, rows.as_slice())?)
+    Ok(write_file(alloc, &schema, &rows)?)
 }
 
 /// A copy of bytes.
@@ -108,15 +106,17 @@ fn column(alloc: Global, name: &str, kind: Kind, nullable: bool) -> Result<Colum
 
 /// So many rows of a table.
 #[tactic(auto, unfolding(crate::specs::Tables::rows_of, crate::specs::Register::state_after))]
-fn rows_of(alloc: Global, table: Table, count: u32) -> Result<Vec<Row>, NoMemory>
-    ensures { IfOk result (λ rows. rows.items ≡ spec.rows_of table count) }
+fn rows_of(alloc: Global, table: Table, count: u32) -> Result<Rows, NoMemory>
+    ensures { IfOk result (λ rows. rows ≡ spec.rows_of table count) }
 {
     let words = words_of(alloc)?;
-    let mut rows = Vec::with_capacity(alloc, count as usize)?;
+    let mut rows = Rows::new(alloc);
+    let mut row = Vec::with_capacity(alloc, MOST_DATA)?;
     let mut state = FIRST_STATE;
     for number in 0..count {
         state = next_state(state);
-        rows.push(row_of(alloc, table, number, state, words.as_slice())?)?;
+        push_data(alloc, table, number, state, words.as_slice(), &mut row)?;
+        rows.push_from(&mut row)?;
     }
     Ok(rows)
 }
@@ -138,30 +138,30 @@ fn word_of(alloc: Global, number: u64) -> Result<String, AllocError>
     format!(in alloc; "word {number}")
 }
 
-/// The row of a number and a state of the shift register.
-fn row_of(
+/// Puts the data of a number's row behind a list, by a state of the shift register.
+fn push_data(
     alloc: Global,
     table: Table,
     number: u32,
     state: u64,
     words: &[Text],
-) -> Result<Row, NoMemory>
+    row: &mut Vec<Datum>,
+) -> Result<(), NoMemory>
     requires { words.now ≡ spec.words }
-    ensures { IfOk result (λ row. row ≡ spec.row_of table number state) }
+    ensures { OnOk result (row.new.items ≡ row.old.items ++ spec.row_of table number state) }
 {
     match table {
-        Table::Longs => pair(
-            alloc,
-            Datum::Long(i64::from(number)),
-            Datum::Long((state / 2) as i64),
-        ),
-        Table::Words => single(alloc, Datum::Text(word_at(words, state)?)),
-        Table::Texts => single(
-            alloc,
-            Datum::Text(Text::from_string(text_of(alloc, number, state)?)?),
-        ),
-        Table::Booleans => single(alloc, flag_of(state)),
+        Table::Longs => {
+            row.push(Datum::Long(i64::from(number)))?;
+            row.push(Datum::Long((state / 2) as i64))?;
+        }
+        Table::Words => row.push(Datum::Text(word_at(words, state)?))?,
+        Table::Texts => {
+            row.push(Datum::Text(Text::from_string(text_of(alloc, number, state)?)?))?;
+        }
+        Table::Booleans => row.push(flag_of(state))?,
     }
+    Ok(())
 }
 
 /// The word that a state picks.
@@ -187,23 +187,4 @@ fn flag_of(state: u64) -> Datum
         0 => Datum::Null,
         rest => Datum::Boolean(rest == 1),
     }
-}
-
-/// A row of one datum.
-fn single(alloc: Global, datum: Datum) -> Result<Row, NoMemory>
-    ensures { IfOk result (λ row. row ≡ datum ∷ []) }
-{
-    let mut row = Vec::with_capacity(alloc, MOST_DATA)?;
-    row.push(datum)?;
-    Ok(Row::make(row))
-}
-
-/// A row of two data.
-fn pair(alloc: Global, first: Datum, second: Datum) -> Result<Row, NoMemory>
-    ensures { IfOk result (λ row. row ≡ first ∷ second ∷ []) }
-{
-    let mut row = Vec::with_capacity(alloc, MOST_DATA)?;
-    row.push(first)?;
-    row.push(second)?;
-    Ok(Row::make(row))
 }

@@ -6,8 +6,8 @@ use Rattle.parquet_plain.specs.Written.{groups_text, group_entries, groups_of}
 use Rattle.parquet_plain.proofs.group_writer.append_groups.Given as goal
 
 pub record Kept (l : goal.Live-loop-rest) : Type 0 where
-  pub text : l.out.items ++ groups_text l.schema (groups_of l.rest) ≡ l.fn.out.items ++ groups_text l.schema (groups_of l.rows)
-  pub entries : l.groups.items ++ group_entries l.schema (length l.out.items) (groups_of l.rest) ≡ group_entries l.schema (length l.fn.out.items) (groups_of l.rows)
+  pub text : l.out.items ++ groups_text l.schema (groups_of l.rest) ≡ l.fn.out.items ++ groups_text l.schema (groups_of l.fn.rows)
+  pub entries : l.groups.items ++ group_entries l.schema (length l.out.items) (groups_of l.rest) ≡ group_entries l.schema (length l.fn.out.items) (groups_of l.fn.rows)
   pub fits : All (FitsSchema l.schema) l.rest
 
 abbrev pub invariant-loop-rest : goal.invariant-loop-rest

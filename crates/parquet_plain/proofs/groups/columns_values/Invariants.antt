@@ -1,6 +1,6 @@
 -- The values so far, before those of the columns that are left, are those of the whole.
 use Rattle.std.proofs.Common.{◌≡◌, ◌++◌, drop, Ok}
-use Rattle.parquet_meta.specs.Faults.{◌>>=◌}
+use Rattle.row_base.specs.Faults.{◌>>=◌}
 use Rattle.parquet_plain.specs.Reading.{columns_values}
 use Rattle.parquet_plain.proofs.groups.columns_values.Given as goal
 

@@ -5,7 +5,7 @@ use Rattle.row_base.specs.declared.row.Datum.{Datum}
 use Rattle.parquet_pages.specs.Written.{CanStand}
 use Rattle.parquet_plain.specs.Written.{pages_of, parts_of, page_values_most, AreIn}
 use Rattle.parquet_plain.proofs.Parts.{some_left, none_left}
-use Rattle.parquet_plain.proofs.WriterLemmas.{pages_step, pages_done, AreIn-take, AreIn-drop}
+use Rattle.parquet_plain.proofs.WriterLemmas.{pages_step, pages_done, AreIn-take, AreIn-drop, ArePlaces-take, ArePlaces-drop}
 use Rattle.parquet_plain.proofs.page_writer.append_pages.Goals as goal
 
 pub append_values-requires-clause-stand : goal.append_values-requires-clause-stand
@@ -18,6 +18,11 @@ append_values-requires-clause-placed c =
     subst (AreIn c.args.dictionary.now c.args.column.now.nullable) (sym c.next_page.ensures.page)
     (AreIn-take c.args.dictionary.now c.args.column.now.nullable page_values_most c.loop-rest.rest.now c.loop-rest.invariant.placed)
 
+pub append_values-requires-clause-places : goal.append_values-requires-clause-places
+append_values-requires-clause-places c =
+    ArePlaces-take c.args.dictionary.now page_values_most c.loop-rest.rest.now c.next_page.result.0.now c.loop-rest.places.now c.next_places.result.0.now
+    c.next_page.ensures.page c.next_places.ensures.page c.loop-rest.invariant.places
+
 pub loop-rest-preserved : goal.loop-rest-preserved
 loop-rest-preserved c = record {
   text =
@@ -28,6 +33,9 @@ loop-rest-preserved c = record {
       (All-drop (CanStand c.args.column.now.kind c.args.column.now.nullable) page_values_most c.loop-rest.rest.now c.loop-rest.invariant.stand);
   placed = subst (AreIn c.args.dictionary.now c.args.column.now.nullable) (sym c.next_page.ensures.later)
       (AreIn-drop c.args.dictionary.now c.args.column.now.nullable page_values_most c.loop-rest.rest.now c.loop-rest.invariant.placed);
+  places =
+      ArePlaces-drop c.args.dictionary.now page_values_most c.loop-rest.rest.now c.next_page.result.0.now c.next_page.result.1.now c.loop-rest.places.now c.next_places.result.1.now
+      c.next_page.ensures.page c.next_page.ensures.later c.next_places.ensures.later c.loop-rest.invariant.places;
 }
 
 pub returns : goal.returns

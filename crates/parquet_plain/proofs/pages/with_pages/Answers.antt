@@ -1,6 +1,6 @@
-use Rattle.std.proofs.Common.{rules, ◌≡◌, sym, ◌∙◌, ap, arith, subst, ◌-◌, ◌+◌, ℕ, Ok}
-use Rattle.parquet_meta.specs.Faults.{Reads, FaultOf, ◌>>=◌}
-use Rattle.parquet_plain.specs.Reading.{with_page, with_pages}
+use Rattle.std.proofs.Common.{rules, sym, ◌∙◌, ap, arith, ◌-◌, ◌+◌}
+use Rattle.row_base.specs.Faults.{◌>>=◌}
+use Rattle.parquet_plain.specs.Reading.{with_pages}
 use Rattle.parquet_plain.proofs.PageLemmas.{pages_end, pages_out, pages_next}
 use Rattle.parquet_plain.proofs.pages.with_pages.Goals as goal
 use Rattle.parquet_plain.proofs.pages.with_pages.Goals.{else-loop-byte-test, then-loop-byte-test+then-span-walk}

@@ -1,4 +1,4 @@
-use Rattle.std.proofs.Common.{◌≡◌, ℕ, ◌++◌, ◌∷◌, ◌+◌, [], ap, sym, ◌∙◌, arith}
+use Rattle.std.proofs.Common.{◌≡◌, ◌++◌, ◌∷◌, ◌+◌, [], ap, sym, ◌∙◌, arith}
 use Rattle.parquet_plain.specs.Grammar.{row_at, rows_from}
 use Rattle.parquet_plain.proofs.Cells.{rows_next}
 use Rattle.parquet_plain.proofs.plain.plain_rows.Goals as goal

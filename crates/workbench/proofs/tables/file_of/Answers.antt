@@ -5,10 +5,8 @@ use Rattle.workbench.proofs.tables.file_of.Goals as goal
 
 pub write_file-requires-clause-few : goal.write_file-requires-clause-few
 write_file-requires-clause-few c =
-    let made = c.as_slice.ensures.value ∙ c.in_ok-rows.ensures in
-    let long : length c.as_slice.result.now ≡ c.args.count = ap (λ (rows : List (List Datum)). length rows) made ∙ length-rows_of c.args.table c.args.count in
+    let long : length c.in_ok-rows.rows ≡ c.args.count = ap (λ (rows : List (List Datum)). length rows) c.in_ok-rows.ensures ∙ length-rows_of c.args.table c.args.count in
     omega (arith, long)
 
 pub write_file-requires-clause-fits : goal.write_file-requires-clause-fits
-write_file-requires-clause-fits c =
-    rows_here c.args.table c.args.count c.in_ok-schema.schema c.as_slice.result.now c.in_ok-schema.ensures (c.as_slice.ensures.value ∙ c.in_ok-rows.ensures)
+write_file-requires-clause-fits c = rows_here c.args.table c.args.count c.in_ok-schema.schema c.in_ok-rows.rows c.in_ok-schema.ensures c.in_ok-rows.ensures

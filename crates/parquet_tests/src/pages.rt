@@ -5,8 +5,10 @@ ghost use Rattle.std.specs.List.{All};
 ghost use Rattle.bit_pack.specs.Bits.{most_values};
 ghost use Rattle.parquet_pages.specs.Written.{CanStand};
 
-use crate::{Dictionary, page_has_null, read_dictionary, read_page, write_page};
 use parquet_meta::{DataPageHead, DictionaryPageHead, FileFault, PageAt, PageHead};
+use parquet_pages::{
+    Dictionary, count_present, page_has_null, read_dictionary, read_page, write_page,
+};
 use row_base::{Datum, Kind, NoMemory, Text};
 use std::alloc::Global;
 use std::test::Fail;
@@ -163,11 +165,11 @@ fn bodies(
     requires stand { All (CanStand Kind.Long optional) values.now }
     requires with_null { All (CanStand Kind.Long true) values.now }
 {
-    let Some(dictionary) = Dictionary::of(alloc, Kind::Long, values)? else {
+    let Some(found) = Dictionary::of(alloc, Kind::Long, values)? else {
         return Ok(None);
     };
-    let page = dictionary.page(alloc, Kind::Long)?;
-    let indices = dictionary.indices(alloc, optional, values)?;
+    let page = found.dictionary.page(alloc, Kind::Long)?;
+    let indices = found.dictionary.indices(alloc, optional, values, &found.places)?;
     Ok(Some((page, indices)))
 }
 
@@ -223,6 +225,7 @@ fn dictionaries_that_pay(rt: HostRuntime) -> Result<(), Fail> {
     let apart = [Datum::Long(1), Datum::Long(2), Datum::Long(1)];
     assert!(rt; bodies(alloc, false, &apart)?.is_none());
     let with_null = [Datum::Long(1), Datum::Long(1), Datum::Null];
+    assert_eq!(rt; count_present(&with_null), 2);
     let written = bodies(alloc, true, &with_null)?;
     assert!(rt;
         are(

@@ -4,12 +4,12 @@ ghost use Rattle.std.specs.Prelude.{◌↔◌, ◌≤ℤ◌, pos, IsTrue};
 ghost use Rattle.std.specs.List.{All};
 ghost use Rattle.row_base.specs.Schema.{FitsSchema};
 
-use crate::plain::plain_file;
-use crate::{read_file, write_file};
 use parquet_meta::{
-    ColumnChunk, ColumnMetaData, FileFault, FileMeta, Items, RowGroup, SchemaElement, write_footer,
+    ColumnChunk, ColumnMetaData, FileFault, FileMeta, RowGroup, SchemaElement, write_footer,
 };
-use row_base::{Column, Datum, Kind, NoMemory, Row, Schema, Text, Texts};
+use parquet_plain::{read_file, write_file};
+use row_base::limits::MAX_FILE_ROWS;
+use row_base::{Column, Datum, Items, Kind, NoMemory, Row, Rows, Schema, Text};
 use std::alloc::Global;
 use std::test::Fail;
 
@@ -95,7 +95,7 @@ fn long_rows(alloc: Global, numbers: &[i64]) -> Result<Vec<Row>, NoMemory> {
 fn fits(schema: &Schema, row: &Row) -> bool
     ensures { IsTrue result ↔ FitsSchema schema.now row.now }
 {
-    schema.fits(row).is_ok()
+    schema.fits(row.as_slice()).is_ok()
 }
 
 /// Whether each row fits.
@@ -107,25 +107,31 @@ fn all_fit(schema: &Schema, rows: &[Row]) -> bool
 
 /// The file of these rows, or nothing where one doesn't fit.
 fn written(alloc: Global, schema: &Schema, rows: &[Row]) -> Result<Vec<u8>, NoMemory> {
-    if rows.len() <= 16_777_216 && all_fit(schema, rows) {
-        write_file(alloc, schema, rows)
+    let mut copies = Vec::new(alloc);
+    for row in rows {
+        copies.push(row.copy(alloc)?)?;
+    }
+    if copies.len() <= MAX_FILE_ROWS && all_fit(schema, &copies) {
+        write_file(alloc, schema, &Rows::from_rows(alloc, copies)?)
     } else {
         Ok(Vec::new(alloc))
     }
 }
 
-/// Whether what was read is these rows.
-fn are_rows(read: Result<Vec<Row>, FileFault>, rows: &[Row]) -> bool {
+/// Whether rows that were read are these.
+fn are_rows(read: Result<Vec<Row>, NoMemory>, rows: &[Row]) -> bool {
     match read {
         Ok(read) => read.as_slice() == rows,
         Err(_) => false,
     }
 }
 
-/// Whether a file reads as these rows, by the plain reader too.
+/// Whether a file reads as these rows.
 fn reads(alloc: Global, schema: &Schema, bytes: &[u8], rows: &[Row]) -> bool {
-    are_rows(read_file(alloc, schema, bytes), rows)
-        && are_rows(plain_file(alloc, schema, bytes), rows)
+    match read_file(alloc, schema, bytes) {
+        Ok(read) => are_rows(read.to_rows(alloc), rows),
+        Err(_) => false,
+    }
 }
 
 #[test]
@@ -237,7 +243,7 @@ fn chunk(
         meta_data: ColumnMetaData {
             physical_type,
             encodings: None,
-            path_in_schema: Texts::make(vec![in alloc; Text::make(alloc, name)?]?),
+            path_in_schema: Items::from_vec(vec![in alloc; Text::make(alloc, name)?]?),
             codec,
             num_values: 2,
             total_uncompressed_size: None,
@@ -255,7 +261,7 @@ fn group(alloc: Global, at: i64) -> Result<RowGroup, NoMemory>
     let other = chunk(alloc, "w", 1, 5, 1000)?;
     let held = chunk(alloc, "id", 2, 0, at)?;
     Ok(RowGroup {
-        columns: Items::make(vec![in alloc; other, held]?),
+        columns: Items::from_vec(vec![in alloc; other, held]?),
         total_byte_size: None,
         num_rows: 2,
     })
@@ -268,9 +274,9 @@ fn foreign_footer(alloc: Global) -> Result<Vec<u8>, NoMemory> {
     let held = element(alloc, "id", Some(2), None)?;
     let meta = FileMeta {
         version: None,
-        schema: Items::make(vec![in alloc; root, other, held]?),
+        schema: Items::from_vec(vec![in alloc; root, other, held]?),
         num_rows: 0,
-        row_groups: Items::make(vec![in alloc; group(alloc, 4)?, group(alloc, 45)?]?),
+        row_groups: Items::from_vec(vec![in alloc; group(alloc, 4)?, group(alloc, 45)?]?),
     };
     write_footer(alloc, &meta)
 }
