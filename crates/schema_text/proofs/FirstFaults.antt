@@ -1,6 +1,6 @@
 -- What the reading of a schema gives is what its fields say, one after another; and its fault is the first by place.
-use Rattle.std.proofs.Common.{◌≡◌, ◌≢◌, ℕ, ◌<◌, ◌==◌, nat_lt, not, ◌&&◌, Bool, true, false, cond, List, [], ◌∷◌, ◌++◌, length, get_or, Option, Some, None, Result, Ok, Err, refl, sym, ◌∙◌, ap, subst, arith, append-nil, append_assoc}
-use Rattle.std.specs.List.{list_any, All}
+use Rattle.std.proofs.Common.{◌≡◌, ◌≢◌, ℕ, ◌==◌, nat_lt, not, ◌&&◌, Bool, true, false, cond, List, [], ◌∷◌, ◌++◌, length, get_or, Option, Some, None, Result, Ok, Err, refl, sym, ◌∙◌, subst, arith, append-nil, append_assoc}
+use Rattle.std.specs.List.{All}
 use Rattle.std.specs.Cmp.Lexicographic.{pointwise, bytes_decides}
 use Rattle.std.proofs.lemmas.Bool.{true≢false, false_from_ne_true, ltb-true, ltb-false}
 use Rattle.std.proofs.lemmas.List.Folds.{list_any_none, list_any_at}
@@ -8,7 +8,7 @@ use Rattle.serde_json.specs.Data.{Data, Items, no_items, item}
 use Rattle.row_base.specs.declared.row.Kind.{Kind}
 use Rattle.row_base.specs.declared.schema.Column.{Column}
 use Rattle.row_base.specs.declared.schema.SchemaFault.{SchemaFault}
-use Rattle.row_base.specs.Schema.{TableSchema, IsSchema, is_named, schema_fault}
+use Rattle.row_base.specs.Schema.{TableSchema, is_named, schema_fault}
 use Rattle.row_base.proofs.SchemaLemmas.{schema_complete}
 use Rattle.schema_text.specs.declared.field.Field.{Field}
 use Rattle.schema_text.specs.declared.fault.SchemaTextFault.{SchemaTextFault}

@@ -10,7 +10,7 @@ use Rattle.row_base.specs.declared.row.Kind.{Kind}
 use Rattle.row_base.specs.declared.row.Kind.TheVariants as kind
 use Rattle.row_base.specs.declared.schema.Column.{Column}
 use Rattle.row_base.specs.declared.schema.SchemaFault.TheVariants as schema
-use Rattle.row_base.specs.Schema.{TableSchema, IsSchema, first_after, is_named, repeats_name, is_wrong_place, is_column_count, schema_fault}
+use Rattle.row_base.specs.Schema.{TableSchema, IsSchema, first_after, is_named, repeats_name, is_wrong_place, is_column_count}
 use Rattle.row_base.proofs.SchemaLemmas.{schema_complete}
 use Rattle.schema_text.specs.declared.field.Field.{Field}
 use Rattle.row_base.specs.Faults.{◌>>=◌}

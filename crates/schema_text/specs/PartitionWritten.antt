@@ -36,6 +36,7 @@ datum_text (datum.Date n) = text_of_day n
 abbrev pub datum_at : List Datum → ℕ → Datum
 datum_at row place = slice_index_or row place datum.Null
 
+-- texts by the names of columns
 abbrev pub Texts : Type 0
 Texts = List (List ℕ × List ℕ)
 
@@ -46,9 +47,11 @@ texts_from partition row place (c ∷ cs) ts =
     texts_from partition row (place + 1) cs
     (if list_any (λ p. p == place) partition then insert_entry (slice_cmp nat_cmp) ts c.name (datum_text (datum_at row place)) else ts)
 
+-- the value that a text is
 abbrev pub value_of : List ℕ × List ℕ → PartitionValue
 value_of t = record { column = t.0; value = Some t.1 }
 
+-- the values that texts are
 abbrev pub values_of : Texts → List PartitionValue
 values_of ts = map value_of ts
 
@@ -72,5 +75,6 @@ data_from partition row place [] = []
 data_from partition row place (c ∷ cs) =
     (if list_any (λ p. p == place) partition then datum_at row place else datum.Null) ∷ data_from partition row (place + 1) cs
 
+-- the row with its data in the partition columns alone
 abbrev pub partition_data : TableSchema → List Datum → List Datum
 partition_data s row = data_from s.partition row 0 s.columns

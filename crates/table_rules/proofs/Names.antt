@@ -11,7 +11,7 @@ use Rattle.std.proofs.lemmas.List.{take_at, drop_at, take-append-drop, get_or_de
 use Rattle.std.proofs.lemmas.Slice.Eq.{bytes_eq-Decides}
 use Rattle.table_rules.specs.declared.log.LogName.TheVariants.{Commit, CheckpointJson, CheckpointOther, Hint, OtherLog}
 use Rattle.table_rules.specs.Digits.{padded, five_or_more, number_in}
-use Rattle.table_rules.specs.Names.{log_prefix, after, before, between, holds_of, is_id, is_id_or_part, of_version, with_version, in_log, behind_prefix, checkpoint_end, checkpoint_text, id_number, id_text, statement_text}
+use Rattle.table_rules.specs.Names.{log_prefix, after, before, between, holds_of, is_id, is_id_or_part, of_version, with_version, in_log, behind_prefix, checkpoint_end, id_number, id_text, statement_text}
 use Rattle.table_rules.specs.Told.{CommitsDiffer, CommitIsRead, CheckpointIsRead, OnlyCommitIsRead, OnlyCheckpointIsRead, CommitIsInLog, DataIsOutside, DataIsNoCommit, DataDiffer, IsGraphic, DataIsGraphic}
 use Rattle.table_rules.proofs.Numerals.{padded_same, length-padded, number-padded, number_is, some_then, value-five_or_more, digits-five_or_more}
 use Rattle.table_rules.proofs.Ids.{same_id, same_parts, id_small, length-id, id_graphic}

@@ -1,16 +1,16 @@
 -- Numbers in a fixed number of digits.
 use Rattle.std.proofs.Common.{◌≡◌, ℕ, zero, suc, Bool, true, false, ◌&&◌, ◌==◌, ◌+◌, ◌*◌, ◌-◌, ◌/◌, ◌%◌, sub-one, add-one, set, take, Result, Ok, Err, IsUtf8, ◌^◌, ◌<◌, ◌≤◌, List, [], ◌∷◌, ◌++◌, length, drop, refl, sym, ap, ◌∙◌, append_assoc, length-append, nat_lt, inl, inr, if◌then◌else◌, arith, rules, Option, Some, None}
-use Rattle.std.specs.Result.{result_ok, MatchResult, IsOk, OkIff}
+use Rattle.std.specs.Result.{MatchResult, IsOk}
 use Rattle.std.specs.List.{list_all}
-use Rattle.std.specs.Str.Parse.{AllDigits, digits_value, ParsesUnsigned}
+use Rattle.std.specs.Str.Parse.{AllDigits, digits_value}
 use Rattle.std.specs.Char.{digit_value, is_ascii_digit}
-use Rattle.std.proofs.lemmas.Bool.{cases_lt, lt-ltb, le-ltb, ltb-true, and_parts, and_from, eqb-true, eq-eqb}
+use Rattle.std.proofs.lemmas.Bool.{cases_lt, lt-ltb, le-ltb, ltb-true, and_parts, eqb-true, eq-eqb}
 use Rattle.std.proofs.lemmas.Int.Digits.{digits_push, digits_value_push, digits_value-lt}
 use Rattle.std.proofs.lemmas.Nat.{same_from_place}
 use Rattle.std.proofs.lemmas.Str.{digit_value_digit, IsUtf8-from_ascii}
 use Rattle.std.proofs.lemmas.Fmt.{IsAscii-from_digits, decimal_is_IsNumeral}
 use Rattle.std.proofs.lemmas.List.{take_at, drop-set}
-use Rattle.std.proofs.lemmas.Str.Parse.{IsDigitsTest, IsNumeralModel, numerals_by_value, numerals_by_weight, digit_from_value, parse_digits}
+use Rattle.std.proofs.lemmas.Str.Parse.{IsDigitsTest, IsNumeralModel, numerals_by_weight, digit_from_value}
 use Rattle.row_base.specs.Numbers.{is_digits, natural_in}
 use Rattle.row_base.proofs.Numerals.{by_test}
 use Rattle.table_rules.specs.Digits.{padded, five_or_more, number_in}

@@ -1,6 +1,6 @@
 -- The path of a new data file is its own name.
-use Rattle.std.proofs.Common.{◌≡◌, ℕ, ◌^◌, ◌<◌, ◌||◌, ◌&&◌, Bool, true, false, List, [], ◌∷◌, ◌++◌, All, refl, sym, ◌∙◌, ap, codes, arith}
-use Rattle.std.specs.Prelude.{Option, Some}
+use Rattle.std.proofs.Common.{◌≡◌, ℕ, true, false, List, [], ◌∷◌, ◌++◌, All, refl, ◌∙◌, ap, codes, arith}
+use Rattle.std.specs.Prelude.{Some}
 use Rattle.std.specs.Str.{is_utf8, IsAscii}
 use Rattle.std.proofs.Math.Bool.{and-false}
 use Rattle.std.proofs.lemmas.Bool.{ne_eqb}
@@ -9,7 +9,6 @@ use Rattle.std.proofs.lemmas.Str.{IsUtf8-from_ascii, is_utf8-from_IsUtf8}
 use Rattle.std.proofs.lemmas.Str.Ascii.{IsAscii-from_all}
 use Rattle.percent_encoding.specs.Percent.{percent_decode}
 use Rattle.percent_encoding.proofs.PercentLemmas.{percent_decode-nil, percent_decode_not_percent}
-use Rattle.edge_api.specs.declared.call.Tag.{Tag}
 use Rattle.table_rules.specs.Digits.{five_or_more}
 use Rattle.table_rules.specs.Names.{data_text, statement_text}
 use Rattle.table_rules.specs.Told.{IsGraphic, DataIsPath}

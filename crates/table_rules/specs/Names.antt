@@ -25,6 +25,7 @@ commit_text version = version_text version (codes ".json")
 abbrev pub checkpoint_end : List ℕ → List ℕ
 checkpoint_end id = codes ".checkpoint." ++ (id ++ codes ".json")
 
+-- the whole of this name
 abbrev pub checkpoint_text : ℕ → List ℕ → List ℕ
 checkpoint_text version id = version_text version (checkpoint_end id)
 
@@ -44,6 +45,7 @@ between front end text = option_and_then (before end) (after front text)
 abbrev pub is_id : List ℕ → Bool
 is_id text = nat_lt 0 (length text) && list_all (λ b. not ((b == 46) || (b == 47))) text
 
+-- a number from 1 to another
 abbrev pub is_in_order : Option ℕ → Option ℕ → Bool
 is_in_order None m = false
 is_in_order (Some n) None = false
@@ -53,9 +55,11 @@ is_in_order (Some n) (Some m) = nat_lt 0 n && nat_le n m
 abbrev pub is_part : List ℕ → Bool
 is_part text = (slice_index text 10 == 46) && is_in_order (number_in 10 (take 10 text)) (number_in 10 (drop 11 text))
 
+-- a checkpoint's identifier, or a part
 abbrev pub is_id_or_part : List ℕ → Bool
 is_id_or_part text = is_id text || is_part text
 
+-- there is a text that passes a test
 abbrev pub holds_of : (List ℕ → Bool) → Option (List ℕ) → Bool
 holds_of test None = false
 holds_of test (Some text) = test text
@@ -70,6 +74,7 @@ of_version version end =
     else if holds_of is_id_or_part (between (codes ".checkpoint.") (codes ".parquet") end) then CheckpointOther version
     else OtherLog
 
+-- what a name says behind its version, where it has one
 abbrev pub with_version : Option ℕ → List ℕ → LogName
 with_version None end = OtherLog
 with_version (Some version) end = of_version version end
@@ -78,6 +83,7 @@ with_version (Some version) end = of_version version end
 abbrev pub in_log : List ℕ → LogName
 in_log text = if bytes_eq text (codes "_last_checkpoint") then Hint else with_version (number_in 20 (take 20 text)) (drop 20 text)
 
+-- what a name says, where it is one of the log
 abbrev pub behind_prefix : Option (List ℕ) → LogName
 behind_prefix None = Outside
 behind_prefix (Some text) = in_log text

@@ -18,9 +18,11 @@ use Rattle.table_rules.specs.declared.rules.Level.{Level}
 use Rattle.table_rules.specs.declared.rules.Level.TheVariants.{Serializable, WriteSerializable}
 use Rattle.table_rules.specs.declared.rules.Rules.{Rules}
 
+-- the level that a text names
 abbrev pub level_in : List ℕ → Option Level
 level_in text = if bytes_eq text (codes "Serializable") then Some Serializable else (if bytes_eq text (codes "WriteSerializable") then Some WriteSerializable else None)
 
+-- a number of commits from 1 to 1,000,000
 abbrev pub if_checkpoint_interval : ℕ → Option ℕ
 if_checkpoint_interval number = if nat_lt 0 number && nat_le number 1000000 then Some number else None
 
@@ -36,6 +38,7 @@ append_only_in text = if bytes_eq text (codes "false") then Some false else None
 unfoldable pub entry_of : List ℕ → List Entry → Option Entry
 entry_of key configuration = find (λ e. bytes_eq e.key key) configuration
 
+-- the value of the property with this key, or that it is not supported
 abbrev pub or_refused : {A : Type 0} → List ℕ → Option A → Result A Feature
 or_refused key None = Err (feature.Property key)
 or_refused key (Some x) = Ok x
@@ -45,12 +48,15 @@ abbrev pub value_of : {A : Type 0} → (List ℕ → Option A) → A → Option 
 value_of read default None = Ok default
 value_of read default (Some e) = or_refused e.key (read e.value)
 
+-- `delta.isolationLevel`
 abbrev pub level_of : List Entry → Result Level Feature
 level_of configuration = value_of level_in WriteSerializable (entry_of (codes "delta.isolationLevel") configuration)
 
+-- `delta.checkpointInterval`
 abbrev pub checkpoint_interval_of : List Entry → Result ℕ Feature
 checkpoint_interval_of configuration = value_of checkpoint_interval_in 10 (entry_of (codes "delta.checkpointInterval") configuration)
 
+-- `delta.appendOnly`
 abbrev pub append_only_of : List Entry → Result Bool Feature
 append_only_of configuration = value_of append_only_in false (entry_of (codes "delta.appendOnly") configuration)
 
@@ -76,6 +82,7 @@ rules_in configuration =
 abbrev pub configuration_of : MetaData → List Entry
 configuration_of meta = unwrap_or meta.configuration []
 
+-- the rules of a table
 abbrev pub rules_of : MetaData → Result Rules Feature
 rules_of meta = rules_in (configuration_of meta)
 
@@ -97,6 +104,7 @@ pub record IsLeastBad (configuration : List Entry) (key : List ℕ) : Type 0 whe
   pub is_bad : IsBad configuration key
   pub is_least : (other : List ℕ) → IsBad configuration other → slice_cmp nat_cmp key other ≢ Greater
 
+-- a fault names the least bad key
 abbrev pub NamesLeast : List Entry → FeatureFault → Type 0
 NamesLeast configuration (faults.Unsupported f) = (key : List ℕ) × (f ≡ feature.Property key) × IsLeastBad configuration key
 NamesLeast configuration faults.NoMemory = Unit {0}

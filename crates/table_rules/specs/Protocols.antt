@@ -21,6 +21,7 @@ abbrev pub other_feature : Option (List (List ℕ)) → Option Feature
 other_feature None = None
 other_feature (Some names) = other_name names
 
+-- the first feature, or else the second
 abbrev pub or_else : Option Feature → Option Feature → Option Feature
 or_else (Some f) next = Some f
 or_else None next = next
@@ -29,6 +30,7 @@ or_else None next = next
 abbrev pub other_features : Protocol → Option Feature
 other_features p = or_else (other_feature p.reader_features) (other_feature p.writer_features)
 
+-- a protocol has these versions
 abbrev pub has_versions : Protocol → ℕ → ℕ → Bool
 has_versions p reader writer = (p.min_reader_version == reader) && (p.min_writer_version == writer)
 
@@ -44,6 +46,7 @@ abbrev pub Names : FeatureFault → Option Feature → Type 0
 Names (faults.Unsupported f) found = found ≡ Some f
 Names faults.NoMemory found = Unit {0}
 
+-- a call found what is not supported, or that there is nothing
 abbrev pub Finds : {A : Type 0} → Result A FeatureFault → Option Feature → Type 0
 Finds (Ok x) found = found ≡ None
 Finds (Err f) found = Names f found

@@ -1,7 +1,6 @@
 //! The protocols that are accepted.
 ghost use Rattle.std.specs.Prelude.{◌≡◌, not, option_copied};
 ghost use Rattle.std.specs.List.{find};
-ghost use Rattle.table_rules.specs.Faults.{FaultOf};
 ghost use Rattle.table_rules.specs.Protocols as spec;
 
 use crate::fault::FeatureFault;
