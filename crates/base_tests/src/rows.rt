@@ -1,9 +1,9 @@
 //! Texts, rows, schemas, dates and numbers: each public function once with ample memory, and values from outside.
 use row_base::numbers::{are_digits, read_decimal, read_long, read_natural};
 use row_base::{
-    Column, Datum, Items, Kind, NoMemory, Row, RowFault, Rows, ScannedFile, Schema, SchemaFault,
-    Text, cmp_rows, copy_columns, copy_texts, dates_give_back, read_date, row_order_is_total,
-    rows_are_counted, sorted, write_date,
+    Column, Datum, Items, Kind, NoMemory, Row, RowFault, RowSlice, Rows, ScannedFile, Schema,
+    SchemaFault, Text, cmp_rows, copy_columns, copy_texts, dates_give_back, read_date,
+    row_order_is_total, rows_are_counted, sorted, write_date,
 };
 use std::alloc::Global;
 use std::cmp::Ordering;
@@ -203,39 +203,72 @@ fn long_of(row: Option<&[Datum]>) -> Option<i64> {
     }
 }
 
+/// Three rows and one more, and these four once more.
+fn eight_rows(alloc: Global) -> Result<Rows, NoMemory> {
+    let mut rows = three_rows(alloc)?;
+    let more = row(alloc, Datum::Long(9), Datum::Null, Datum::Null)?;
+    rows.push_copy(more.as_slice())?;
+    let copy = rows.copy(alloc)?;
+    rows.append(copy)?;
+    Ok(rows)
+}
+
+/// The first longs of these rows, each behind a space.
+fn longs_text(alloc: Global, rows: RowSlice<'_>) -> Result<String, NoMemory> {
+    let mut text = String::new(alloc);
+    for row in rows {
+        if let Some(n) = long_of(Some(row)) {
+            write!(text, " {n}")?;
+        }
+    }
+    Ok(text)
+}
+
 #[test]
 fn rows_are_kept_in_one_list(rt: HostRuntime) -> Result<(), Fail> {
-    let alloc = rt.alloc();
-    let mut rows = three_rows(alloc)?;
+    let rows = eight_rows(rt.alloc())?;
     may_cross(&rows);
-    assert!(rt; Rows::new(alloc).is_empty());
-    let copy = rows.copy(alloc)?;
-    rows.push_copy([Datum::Long(9)].as_slice())?;
-    rows.append(copy)?;
-    assert_eq!(rt; rows.len(), 7);
+    assert!(rt; !rows.is_empty());
+    assert_eq!(rt; rows.len(), 8);
     assert_eq!(rt; long_of(rows.get(3)), Some(9));
-    assert_eq!(rt; long_of(rows.get(6)), Some(2));
-    assert_eq!(rt; long_of(rows.get(7)), None);
-    let (front, back) = rows.iter().split_at(4);
-    assert_eq!(rt; front.len(), 4);
+    assert_eq!(rt; long_of(rows.get(8)), None);
+    let text = longs_text(rt.alloc(), rows.iter())?;
+    assert_eq!(rt; text.as_str(), " 3 1 2 9 3 1 2 9");
+    Ok(())
+}
+
+#[test]
+fn rows_are_cut(rt: HostRuntime) -> Result<(), Fail> {
+    let rows = eight_rows(rt.alloc())?;
+    let (front, back) = rows.iter().split_at(5);
+    assert_eq!(rt; front.len(), 5);
     assert!(rt; !back.is_empty());
-    assert_eq!(rt; long_of(back.get(0)), Some(3));
-    let ordered = sorted(alloc, &rows)?;
-    let mut found = Vec::new(alloc);
-    for row in ordered.iter() {
-        found.push(long_of(Some(row)))?;
-    }
-    let want = [1, 1, 2, 2, 3, 3, 9];
-    for (i, n) in want.iter().enumerate() {
-        assert_eq!(rt; found[i], Some(*n));
-    }
-    let back = Rows::from_rows(alloc, ordered.to_rows(alloc)?)?;
+    assert_eq!(rt; long_of(back.get(0)), Some(1));
+    let text = longs_text(rt.alloc(), back)?;
+    assert_eq!(rt; text.as_str(), " 1 2 9");
+    Ok(())
+}
+
+#[test]
+fn rows_are_sorted(rt: HostRuntime) -> Result<(), Fail> {
+    let alloc = rt.alloc();
+    let ordered = sorted(alloc, &eight_rows(alloc)?)?;
+    let text = longs_text(alloc, ordered.iter())?;
+    assert_eq!(rt; text.as_str(), " 1 1 2 2 3 3 9 9");
+    let again = Rows::from_rows(alloc, ordered.to_rows(alloc)?)?;
+    assert_eq!(rt; again.len(), 8);
+    Ok(())
+}
+
+#[test]
+fn files_are_copied(rt: HostRuntime) -> Result<(), Fail> {
     let file = ScannedFile {
-        path: Text::make(alloc, "f")?,
-        rows: back,
+        path: Text::make(rt.alloc(), "f")?,
+        rows: three_rows(rt.alloc())?,
     };
     may_cross(&file);
-    assert_eq!(rt; file.copy(alloc)?.rows.len(), 7);
+    let copy = file.copy(rt.alloc())?;
+    assert_eq!(rt; copy.rows.len(), 3);
     Ok(())
 }
 

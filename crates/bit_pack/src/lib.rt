@@ -15,6 +15,3 @@ pub use hybrid::{read_hybrid, write_hybrid};
 pub use laws::{one_fault, one_reading, one_unpacking};
 pub use packing::{pack, pack8};
 pub use unpacking::{MOST_VALUES, plain_value, unpack, unpack8};
-
-#[cfg(test)]
-mod tests;

@@ -7,10 +7,9 @@ use Rattle.serde_json.specs.View.{view, items_view, members_view}
 use Rattle.serde_json.specs.declared.value.Value.{Value}
 use Rattle.serde_json.proofs.Views.{Entry as Member}
 use Rattle.json_lines.specs.declared.map.Entry.{Entry}
-use Rattle.json_lines.specs.declared.map.PartitionValue.{PartitionValue}
-use Rattle.json_lines.specs.Kinds.{texts_in, text_or_null, entries_in, partition_in, with_entry}
+use Rattle.json_lines.specs.Kinds.{texts_in, text_or_null, entries_in, with_entry}
 
-fuse : {A : Type 0} (xs : List A) (y : A) (o : Option (List A)) → option_map (λ ys. (xs ++ y ∷ []) ++ ys) o ≡ option_map (λ ys. xs ++ ys) (option_map (λ rest. y ∷ rest) o)
+pub fuse : {A : Type 0} (xs : List A) (y : A) (o : Option (List A)) → option_map (λ ys. (xs ++ y ∷ []) ++ ys) o ≡ option_map (λ ys. xs ++ ys) (option_map (λ rest. y ∷ rest) o)
 fuse xs y None = refl
 fuse xs y (Some ys) = ap Some (append_assoc xs (y ∷ []) ys)
 
@@ -49,18 +48,6 @@ entries_more done p e es whole is named h =
     fuse done p (entries_in (members_view es))
     ∙ ap (λ k. option_map (λ ys. done ++ ys) (option_map (λ rest. record { key = k; value = p.value } ∷ rest) (entries_in (members_view es)))) named
     ∙ ap (λ o. option_map (λ ys. done ++ ys) (option_and_then (λ t. option_map (with_entry (string_bytes e.0) t) (entries_in (members_view es))) o)) (sym is) ∙ h
-
-pub partition_bad : (done : List PartitionValue) (e : Member) (es : List Member) (whole : Option (List PartitionValue)) → text_or_null (view e.1) ≡ None
-    → option_map (λ ys. done ++ ys) (partition_in (members_view (e ∷ es))) ≡ whole → whole ≡ None
-partition_bad done e es whole is h =
-    sym h ∙ ap (λ o. option_map (λ ys. done ++ ys) (option_and_then (λ t. option_map (λ vs. record { column = string_bytes e.0; value = t } ∷ vs) (partition_in (members_view es))) o)) is
-
-pub partition_more : (done : List PartitionValue) (p : PartitionValue) (e : Member) (es : List Member) (whole : Option (List PartitionValue)) → text_or_null (view e.1) ≡ Some p.value → p.column ≡ string_bytes e.0
-    → option_map (λ ys. done ++ ys) (partition_in (members_view (e ∷ es))) ≡ whole → option_map (λ ys. (done ++ p ∷ []) ++ ys) (partition_in (members_view es)) ≡ whole
-partition_more done p e es whole is named h =
-    fuse done p (partition_in (members_view es))
-    ∙ ap (λ k. option_map (λ ys. done ++ ys) (option_map (λ rest. record { column = k; value = p.value } ∷ rest) (partition_in (members_view es)))) named
-    ∙ ap (λ o. option_map (λ ys. done ++ ys) (option_and_then (λ t. option_map (λ vs. record { column = string_bytes e.0; value = t } ∷ vs) (partition_in (members_view es))) o)) (sym is) ∙ h
 
 -- the member that was found, as a list
 abbrev pub listed : Option (Bor (List ℕ) × Bor Value) → List (List ℕ × Data)

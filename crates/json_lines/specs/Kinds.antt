@@ -3,8 +3,8 @@ use Rattle.std.specs.Prelude.{ℕ, nat_le, List, [], ◌∷◌, if◌then◌else
 use Rattle.serde_json.specs.Data.{Data, null, boolean, number, string, array, object, Items, no_items, item, Members, no_members, member}
 use Rattle.serde_json.specs.Find.{get, as_str, as_number, as_u64, as_array, as_object}
 use Rattle.json_lines.specs.declared.map.Entry.{Entry}
-use Rattle.json_lines.specs.declared.map.PartitionValue.{PartitionValue}
 
+-- a number up to the limit
 abbrev pub up_to : ℕ → ℕ → Option ℕ
 up_to limit n = if nat_le n limit then Some n else None
 
@@ -17,6 +17,7 @@ abbrev pub texts_in : Items → Option (List (List ℕ))
 texts_in no_items = Some []
 texts_in (item d ds) = option_and_then (λ t. option_map (λ ts. t ∷ ts) (texts_in ds)) (as_str d)
 
+-- the same of a JSON value
 unfoldable pub as_texts : Data → Option (List (List ℕ))
 as_texts d = option_and_then texts_in (as_array d)
 
@@ -29,25 +30,19 @@ text_or_null (string s) = Some (Some s)
 text_or_null (array ds) = None
 text_or_null (object ms) = None
 
--- texts by their names; a null stands for nothing
+-- the entries with one more, by its name; a null stands for nothing
 abbrev pub with_entry : List ℕ → Option (List ℕ) → List Entry → List Entry
 with_entry k None es = es
 with_entry k (Some t) es = record { key = k; value = t } ∷ es
 
+-- the entries of an object
 abbrev pub entries_in : Members → Option (List Entry)
 entries_in no_members = Some []
 entries_in (member k d ms) = option_and_then (λ t. option_map (with_entry k t) (entries_in ms)) (text_or_null d)
 
+-- the same of a JSON value
 unfoldable pub as_text_map : Data → Option (List Entry)
 as_text_map d = option_and_then entries_in (as_object d)
-
--- texts and nulls by the names of columns
-abbrev pub partition_in : Members → Option (List PartitionValue)
-partition_in no_members = Some []
-partition_in (member k d ms) = option_and_then (λ t. option_map (λ vs. record { column = k; value = t } ∷ vs) (partition_in ms)) (text_or_null d)
-
-unfoldable pub as_partition_map : Data → Option (List PartitionValue)
-as_partition_map d = option_and_then partition_in (as_object d)
 
 -- a value that isn't null
 abbrev pub unless_null : Data → Option Data
@@ -75,6 +70,7 @@ present name d = option_and_then unless_null (get name d)
 unfoldable pub needed : {A : Type 0} → (Data → Option A) → List ℕ → Data → Option A
 needed kind name d = option_and_then kind (present name d)
 
+-- what there is, where there is a value
 abbrev pub if_there : {A : Type 0} → (Data → Option A) → Option Data → Option (Option A)
 if_there kind None = Some None
 if_there kind (Some d) = option_map Some (kind d)

@@ -4,36 +4,33 @@ use Rattle.serde_json.specs.Data.{Num, unsigned, negative, float, Data, null, bo
 use Rattle.serde_json.specs.View.{items_of}
 use Rattle.serde_json.specs.Written.{compact_text}
 use Rattle.json_lines.specs.declared.map.Entry.{Entry}
-use Rattle.json_lines.specs.declared.map.PartitionValue.{PartitionValue}
 
 -- the members with one more, in byte order of the names, where there is a value
 unfoldable pub with_member : List ℕ → Option Data → Members → Members
 with_member name None ms = ms
 with_member name (Some d) ms = put name d ms
 
+-- an integer
 abbrev pub integer_data : ℕ → Data
 integer_data n = number (unsigned n)
 
+-- a list of texts
 abbrev pub texts_data : List (List ℕ) → Data
 texts_data ts = array (items_of (map string ts))
 
+-- members with these entries put in
 abbrev pub entries_data : Members → List Entry → Members
 entries_data ms [] = ms
 entries_data ms (e ∷ es) = entries_data (put e.key (string e.value) ms) es
 
+-- texts by their names
 unfoldable pub text_map_data : List Entry → Data
 text_map_data es = object (entries_data no_members es)
 
+-- a text, or null
 abbrev pub text_or_null_data : Option (List ℕ) → Data
 text_or_null_data None = null
 text_or_null_data (Some t) = string t
-
-abbrev pub values_data : Members → List PartitionValue → Members
-values_data ms [] = ms
-values_data ms (v ∷ vs) = values_data (put v.column (text_or_null_data v.value) ms) vs
-
-unfoldable pub partition_data : List PartitionValue → Data
-partition_data vs = object (values_data no_members vs)
 
 -- an object with one member, which is an object
 abbrev pub single_object : List ℕ → Members → Data
@@ -48,11 +45,13 @@ abbrev pub FitsInteger : ℤ → Type 0
 FitsInteger (pos n) = n < 2 ^ 63
 FitsInteger (negsuc n) = n < 2 ^ 63
 
+-- the same of a number
 abbrev pub FitsNumber : Num → Type 0
 FitsNumber (unsigned n) = n < 2 ^ 64
 FitsNumber (negative z) = FitsInteger z
 FitsNumber (float x) = Unit {0}
 
+-- the same of a value, of items and of members
 abbrev mutual
   pub FitsData : Data → Type 0
   FitsData null = Unit {0}

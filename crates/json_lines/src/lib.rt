@@ -12,15 +12,10 @@ mod write;
 
 pub use fault::ShapeFault;
 pub use line::{first_line, is_blank, read_object};
-pub use map::{Entry, PartitionMap, PartitionValue, TextMap, copy_text};
+pub use map::{Entry, TextMap, copy_text};
 pub use member::{
-    needed_flag, needed_integer, needed_partition_map, needed_text, needed_texts, optional_flag,
-    optional_integer, optional_partition_map, optional_text, optional_text_map, optional_texts,
-    present,
+    Member, needed, needed_integer, optional, optional_integer, present, put_member, put_optional,
 };
 pub use object::single_member;
-pub use write::{
-    compact_text_is_a_line, push_line, put_flag, put_integer, put_optional_flag,
-    put_optional_integer, put_optional_partition_map, put_optional_text, put_optional_text_map,
-    put_optional_texts, put_partition_map, put_text, put_text_map, put_texts, single_value,
-};
+pub use value::{text_or_null, text_or_null_value};
+pub use write::{compact_text_is_a_line, push_line, single_value};

@@ -1,8 +1,9 @@
 //! The lines of a text.
-ghost use Rattle.std.specs.Prelude.{◌≡◌, ◌==◌, ◌+◌, ◌<◌, ◌∷◌, [], length, take, drop, position, IfSome, IfNone, Some, MatchResult};
+ghost use Rattle.std.specs.Prelude.{◌≡◌, ◌==◌, ◌+◌, ◌<◌, ◌∷◌, [], length, take, drop, position, IfSome, IfNone};
 ghost use Rattle.serde_json.specs.View.{view};
 ghost use Rattle.json_lines.specs.Lines.{lines, is_blank as blank, value_of_line, object_of_line};
-ghost use Rattle.json_lines.specs.Gives.{Fails};
+ghost use Rattle.json_lines.specs.Gives.{is_memory};
+ghost use Rattle.row_base.specs.Readings.{Gives};
 
 use crate::fault::ShapeFault;
 use serde_json::Value;
@@ -44,7 +45,7 @@ pub fn is_blank(line: &[u8]) -> bool
 }
 
 fn value_of(alloc: Global, line: &[u8]) -> Result<Value, ShapeFault>
-    ensures { MatchResult result (λ v. value_of_line line.now ≡ Some (view v)) (λ e. Fails e (value_of_line line.now)) }
+    ensures { Gives is_memory view result (value_of_line line.now) }
 {
     match Value::from_slice(alloc, line) {
         Ok(value) => Ok(value),
@@ -61,7 +62,7 @@ fn value_of(alloc: Global, line: &[u8]) -> Result<Value, ShapeFault>
 /// The object that a line is, whose members nest to 127 levels at most. The fault of its shape says that it is no JSON text of an object.
 #[tactic(auto, unfolding(crate::specs::Lines::object_of_line))]
 pub fn read_object(alloc: Global, line: &[u8]) -> Result<Value, ShapeFault>
-    ensures { MatchResult result (λ v. object_of_line line.now ≡ Some (view v)) (λ e. Fails e (object_of_line line.now)) }
+    ensures { Gives is_memory view result (object_of_line line.now) }
 {
     let value = value_of(alloc, line)?;
     if value.is_object() {

@@ -1,16 +1,32 @@
 //! Members of a JSON object. A member that is null counts as absent.
-ghost use Rattle.std.specs.Prelude.{◌≡◌, IfOk, option_map};
-ghost use Rattle.serde_json.specs.Find.{as_str, as_bool};
-ghost use Rattle.serde_json.specs.View.{view};
-ghost use Rattle.json_lines.specs.Gives.{Gives};
+ghost use Rattle.std.specs.Prelude.{◌≡◌, Option, Some, IfOk, OnOk, option_map};
+ghost use Rattle.serde_json.specs.Data.{Data};
+ghost use Rattle.serde_json.specs.View.{view, members_view};
+ghost use Rattle.row_base.specs.Readings.{Gives};
+ghost use Rattle.json_lines.specs.Gives.{is_memory};
 ghost use Rattle.json_lines.specs.Kinds as spec;
+ghost use Rattle.json_lines.specs.Written.{with_member};
 
 use crate::fault::ShapeFault;
-use crate::map::{PartitionMap, TextMap};
-use crate::value::{flag_of, integer_of, partition_map_of, text_map_of, text_of, texts_of};
-use row_base::{Text, Texts};
-use serde_json::Value;
+use crate::value::integer_of;
+use row_base::NoMemory;
+use serde_json::{Map, Value, put};
 use std::alloc::Global;
+
+/// What the value of a member can be.
+pub trait Member: Drop {
+    ghost kind: { Data → Option Self };
+
+    ghost written: { Self → Data };
+
+    /// What a JSON value stands for.
+    fn read(alloc: Global, value: &Value) -> Result<Self, ShapeFault>
+        ensures { Gives is_memory (λ x. x) result (kind (view value.now)) };
+
+    /// The JSON value that is written.
+    fn write(&self, alloc: Global) -> Result<Value, NoMemory>
+        ensures { IfOk result (λ v. view v ≡ written self.now) };
+}
 
 fn unless_null(value: &Value) -> Option<&Value>
     ensures { option_map (λ v. view v.now) result ≡ spec.unless_null (view value.now) }
@@ -32,46 +48,28 @@ pub fn present<'a>(object: &'a Value, name: &str) -> Option<&'a Value>
     }
 }
 
-/// A text that has to be there.
+/// What a member stands for that has to be there.
 #[tactic(auto, unfolding(crate::specs::Kinds::needed))]
-pub fn needed_text(alloc: Global, object: &Value, name: &str) -> Result<Text, ShapeFault>
-    ensures { Gives result (spec.needed as_str name.now (view object.now)) }
+pub fn needed<M: Member>(alloc: Global, object: &Value, name: &str) -> Result<M, ShapeFault>
+    ensures { Gives is_memory (λ x. x) result (spec.needed M.kind name.now (view object.now)) }
 {
     match present(object, name) {
-        Some(value) => text_of(alloc, value),
+        Some(value) => M::read(alloc, value),
         None => Err(ShapeFault::Shape),
     }
 }
 
-/// A text, where it is there.
+/// What a member stands for, where it is there.
 #[tactic(auto, unfolding(crate::specs::Kinds::optional))]
-pub fn optional_text(alloc: Global, object: &Value, name: &str) -> Result<Option<Text>, ShapeFault>
-    ensures { Gives result (spec.optional as_str name.now (view object.now)) }
+pub fn optional<M: Member>(
+    alloc: Global,
+    object: &Value,
+    name: &str,
+) -> Result<Option<M>, ShapeFault>
+    ensures { Gives is_memory (λ x. x) result (spec.optional M.kind name.now (view object.now)) }
 {
     match present(object, name) {
-        Some(value) => Ok(Some(text_of(alloc, value)?)),
-        None => Ok(None),
-    }
-}
-
-/// A truth value that has to be there.
-#[tactic(auto, unfolding(crate::specs::Kinds::needed))]
-pub fn needed_flag(object: &Value, name: &str) -> Result<bool, ShapeFault>
-    ensures { Gives result (spec.needed as_bool name.now (view object.now)) }
-{
-    match present(object, name) {
-        Some(value) => flag_of(value),
-        None => Err(ShapeFault::Shape),
-    }
-}
-
-/// A truth value, where it is there.
-#[tactic(auto, unfolding(crate::specs::Kinds::optional))]
-pub fn optional_flag(object: &Value, name: &str) -> Result<Option<bool>, ShapeFault>
-    ensures { Gives result (spec.optional as_bool name.now (view object.now)) }
-{
-    match present(object, name) {
-        Some(value) => Ok(Some(flag_of(value)?)),
+        Some(value) => Ok(Some(M::read(alloc, value)?)),
         None => Ok(None),
     }
 }
@@ -79,7 +77,7 @@ pub fn optional_flag(object: &Value, name: &str) -> Result<Option<bool>, ShapeFa
 /// An integer from 0 to the limit that has to be there.
 #[tactic(auto, unfolding(crate::specs::Kinds::needed))]
 pub fn needed_integer(object: &Value, name: &str, limit: u64) -> Result<u64, ShapeFault>
-    ensures { Gives result (spec.needed (spec.as_integer limit) name.now (view object.now)) }
+    ensures { Gives is_memory (λ x. x) result (spec.needed (spec.as_integer limit) name.now (view object.now)) }
 {
     match present(object, name) {
         Some(value) => integer_of(value, limit),
@@ -90,7 +88,7 @@ pub fn needed_integer(object: &Value, name: &str, limit: u64) -> Result<u64, Sha
 /// An integer from 0 to the limit, where it is there.
 #[tactic(auto, unfolding(crate::specs::Kinds::optional))]
 pub fn optional_integer(object: &Value, name: &str, limit: u64) -> Result<Option<u64>, ShapeFault>
-    ensures { Gives result (spec.optional (spec.as_integer limit) name.now (view object.now)) }
+    ensures { Gives is_memory (λ x. x) result (spec.optional (spec.as_integer limit) name.now (view object.now)) }
 {
     match present(object, name) {
         Some(value) => Ok(Some(integer_of(value, limit)?)),
@@ -98,73 +96,34 @@ pub fn optional_integer(object: &Value, name: &str, limit: u64) -> Result<Option
     }
 }
 
-/// A list of texts that has to be there.
-#[tactic(auto, unfolding(crate::specs::Kinds::needed))]
-pub fn needed_texts(alloc: Global, object: &Value, name: &str) -> Result<Texts, ShapeFault>
-    ensures { Gives result (spec.needed spec.as_texts name.now (view object.now)) }
+/// Puts a member into an object.
+#[tactic(auto, unfolding(crate::specs::Written::with_member))]
+pub fn put_member<M: Member>(
+    alloc: Global,
+    members: &mut Map<String, Value>,
+    name: &str,
+    value: &M,
+) -> Result<(), NoMemory>
+    ensures { OnOk result (members_view members.new.entries
+        ≡ with_member name.now (Some (M.written value.now)) (members_view members.old.entries)) }
 {
-    match present(object, name) {
-        Some(value) => texts_of(alloc, value),
-        None => Err(ShapeFault::Shape),
-    }
+    let value = value.write(alloc)?;
+    Ok(put(members, alloc, name, value)?)
 }
 
-/// A list of texts, where it is there.
-#[tactic(auto, unfolding(crate::specs::Kinds::optional))]
-pub fn optional_texts(
+/// Puts a member into an object, where there is one.
+#[tactic(auto, unfolding(crate::specs::Written::with_member))]
+pub fn put_optional<M: Member>(
     alloc: Global,
-    object: &Value,
+    members: &mut Map<String, Value>,
     name: &str,
-) -> Result<Option<Texts>, ShapeFault>
-    ensures { Gives result (spec.optional spec.as_texts name.now (view object.now)) }
+    value: &Option<M>,
+) -> Result<(), NoMemory>
+    ensures { OnOk result (members_view members.new.entries
+        ≡ with_member name.now (option_map M.written value.now) (members_view members.old.entries)) }
 {
-    match present(object, name) {
-        Some(value) => Ok(Some(texts_of(alloc, value)?)),
-        None => Ok(None),
-    }
-}
-
-/// Texts by their names, where it is there.
-#[tactic(auto, unfolding(crate::specs::Kinds::optional))]
-pub fn optional_text_map(
-    alloc: Global,
-    object: &Value,
-    name: &str,
-) -> Result<Option<TextMap>, ShapeFault>
-    ensures { Gives result (spec.optional spec.as_text_map name.now (view object.now)) }
-{
-    match present(object, name) {
-        Some(value) => Ok(Some(text_map_of(alloc, value)?)),
-        None => Ok(None),
-    }
-}
-
-/// Texts and nulls by the names of columns that has to be there.
-#[tactic(auto, unfolding(crate::specs::Kinds::needed))]
-pub fn needed_partition_map(
-    alloc: Global,
-    object: &Value,
-    name: &str,
-) -> Result<PartitionMap, ShapeFault>
-    ensures { Gives result (spec.needed spec.as_partition_map name.now (view object.now)) }
-{
-    match present(object, name) {
-        Some(value) => partition_map_of(alloc, value),
-        None => Err(ShapeFault::Shape),
-    }
-}
-
-/// Texts and nulls by the names of columns, where it is there.
-#[tactic(auto, unfolding(crate::specs::Kinds::optional))]
-pub fn optional_partition_map(
-    alloc: Global,
-    object: &Value,
-    name: &str,
-) -> Result<Option<PartitionMap>, ShapeFault>
-    ensures { Gives result (spec.optional spec.as_partition_map name.now (view object.now)) }
-{
-    match present(object, name) {
-        Some(value) => Ok(Some(partition_map_of(alloc, value)?)),
-        None => Ok(None),
+    match value {
+        Some(value) => put_member(alloc, members, name, value),
+        None => Ok(()),
     }
 }

@@ -1,40 +1,60 @@
-//! JSON values read by their kind.
-ghost use Rattle.std.specs.Prelude.{◌≡◌, IfOk, option_map};
+//! JSON values by their kind, read and written.
+ghost use Rattle.std.specs.Prelude.{◌≡◌, ◌^◌, ◌-◌, IfOk};
+ghost use Rattle.serde_json.specs.Data.{boolean, string, object};
 ghost use Rattle.serde_json.specs.Find.{as_str, as_bool};
 ghost use Rattle.serde_json.specs.View.{view, members_view, items_view};
-ghost use Rattle.json_lines.specs.Gives.{Gives};
+ghost use Rattle.row_base.specs.Readings.{Gives};
+ghost use Rattle.json_lines.specs.Gives.{is_memory};
 ghost use Rattle.json_lines.specs.Kinds as spec;
+ghost use Rattle.json_lines.specs.Written.{integer_data, texts_data, text_map_data, text_or_null_data};
 
 use crate::fault::ShapeFault;
-use crate::map::{Entry, PartitionMap, PartitionValue, TextMap};
-use row_base::{Text, Texts};
-use serde_json::{Map, Value};
+use crate::map::{Entry, TextMap};
+use crate::member::Member;
+use row_base::{Items, NoMemory, Text};
+use serde_json::{Map, Value, put};
 use std::alloc::Global;
 
 /// A text.
-pub(crate) fn text_of(alloc: Global, value: &Value) -> Result<Text, ShapeFault>
-    ensures { Gives result (as_str (view value.now)) }
-{
-    match value.as_str() {
-        Some(text) => Ok(Text::make(alloc, text)?),
-        None => Err(ShapeFault::Shape),
+impl Member for Text {
+    ghost kind = { as_str };
+
+    ghost written = { string };
+
+    fn read(alloc: Global, value: &Value) -> Result<Text, ShapeFault> {
+        match value.as_str() {
+            Some(text) => Ok(Text::make(alloc, text)?),
+            None => Err(ShapeFault::Shape),
+        }
+    }
+
+    fn write(&self, alloc: Global) -> Result<Value, NoMemory> {
+        Ok(Value::try_from_str(alloc, self.as_str())?)
     }
 }
 
 /// A truth value.
-pub(crate) fn flag_of(value: &Value) -> Result<bool, ShapeFault>
-    ensures { Gives result (as_bool (view value.now)) }
-{
-    match value.as_bool() {
-        Some(flag) => Ok(flag),
-        None => Err(ShapeFault::Shape),
+impl Member for bool {
+    ghost kind = { as_bool };
+
+    ghost written = { boolean };
+
+    fn read(_alloc: Global, value: &Value) -> Result<bool, ShapeFault> {
+        match value.as_bool() {
+            Some(flag) => Ok(flag),
+            None => Err(ShapeFault::Shape),
+        }
+    }
+
+    fn write(&self, _alloc: Global) -> Result<Value, NoMemory> {
+        Ok(Value::Bool(*self))
     }
 }
 
 /// An integer from 0 to the limit.
 #[tactic(auto, unfolding(crate::specs::Kinds::as_integer))]
 pub(crate) fn integer_of(value: &Value, limit: u64) -> Result<u64, ShapeFault>
-    ensures { Gives result (spec.as_integer limit (view value.now)) }
+    ensures { Gives is_memory (λ x. x) result (spec.as_integer limit (view value.now)) }
 {
     match value.as_u64() {
         Some(number) => {
@@ -48,29 +68,64 @@ pub(crate) fn integer_of(value: &Value, limit: u64) -> Result<u64, ShapeFault>
     }
 }
 
-fn texts_in(alloc: Global, items: &[Value]) -> Result<Texts, ShapeFault>
-    ensures { Gives result (spec.texts_in (items_view items.now)) }
+/// An integer of 64 bits without a sign.
+impl Member for u64 {
+    ghost kind = { spec.as_integer (2 ^ 64 - 1) };
+
+    ghost written = { integer_data };
+
+    fn read(_alloc: Global, value: &Value) -> Result<u64, ShapeFault> {
+        integer_of(value, u64::MAX)
+    }
+
+    fn write(&self, _alloc: Global) -> Result<Value, NoMemory> {
+        Ok(Value::from(*self))
+    }
+}
+
+fn texts_in(alloc: Global, items: &[Value]) -> Result<Items<Text>, ShapeFault>
+    ensures { Gives is_memory (λ x. x) result (spec.texts_in (items_view items.now)) }
 {
     let mut texts = Vec::new(alloc);
     for value in items {
-        texts.push(text_of(alloc, value)?)?;
+        let text: Text = Member::read(alloc, value)?;
+        texts.push(text)?;
     }
-    Ok(Texts::make(texts))
+    Ok(Items::from_vec(texts))
+}
+
+fn texts_value(alloc: Global, texts: &[Text]) -> Result<Value, NoMemory>
+    ensures { IfOk result (λ v. view v ≡ texts_data texts.now) }
+{
+    let mut values = Vec::new(alloc);
+    for text in texts {
+        values.push(text.write(alloc)?)?;
+    }
+    Ok(Value::Array(values))
 }
 
 /// A list of texts.
-#[tactic(auto, unfolding(crate::specs::Kinds::as_texts))]
-pub(crate) fn texts_of(alloc: Global, value: &Value) -> Result<Texts, ShapeFault>
-    ensures { Gives result (spec.as_texts (view value.now)) }
-{
-    match value.as_array() {
-        Some(items) => texts_in(alloc, items.as_slice()),
-        None => Err(ShapeFault::Shape),
+impl Member for Items<Text> {
+    ghost kind = { spec.as_texts };
+
+    ghost written = { texts_data };
+
+    #[tactic(auto, unfolding(crate::specs::Kinds::as_texts))]
+    fn read(alloc: Global, value: &Value) -> Result<Items<Text>, ShapeFault> {
+        match value.as_array() {
+            Some(items) => texts_in(alloc, items.as_slice()),
+            None => Err(ShapeFault::Shape),
+        }
+    }
+
+    fn write(&self, alloc: Global) -> Result<Value, NoMemory> {
+        texts_value(alloc, self.as_slice())
     }
 }
 
-fn text_or_null(alloc: Global, value: &Value) -> Result<Option<Text>, ShapeFault>
-    ensures { Gives result (spec.text_or_null (view value.now)) }
+/// A text, or nothing for null.
+pub fn text_or_null(alloc: Global, value: &Value) -> Result<Option<Text>, ShapeFault>
+    ensures { Gives is_memory (λ x. x) result (spec.text_or_null (view value.now)) }
 {
     match value {
         Value::Null => Ok(None),
@@ -79,8 +134,18 @@ fn text_or_null(alloc: Global, value: &Value) -> Result<Option<Text>, ShapeFault
     }
 }
 
+/// The value of a text, or null.
+pub fn text_or_null_value(alloc: Global, text: &Option<Text>) -> Result<Value, NoMemory>
+    ensures { IfOk result (λ v. view v ≡ text_or_null_data text.now) }
+{
+    match text {
+        Some(text) => text.write(alloc),
+        None => Ok(Value::Null),
+    }
+}
+
 fn entries_in(alloc: Global, members: &Map<String, Value>) -> Result<TextMap, ShapeFault>
-    ensures { Gives result (spec.entries_in (members_view members.now.entries)) }
+    ensures { Gives is_memory (λ x. x) result (spec.entries_in (members_view members.now.entries)) }
 {
     let mut entries = Vec::new(alloc);
     for (name, value) in members.iter() {
@@ -93,36 +158,33 @@ fn entries_in(alloc: Global, members: &Map<String, Value>) -> Result<TextMap, Sh
     Ok(TextMap::make(entries))
 }
 
+#[tactic(auto, unfolding(crate::specs::Written::text_map_data))]
+fn entries_members(alloc: Global, entries: &[Entry]) -> Result<Map<String, Value>, NoMemory>
+    ensures { IfOk result (λ m. object (members_view m.entries) ≡ text_map_data entries.now) }
+{
+    let mut members = Map::new(alloc);
+    for entry in entries {
+        let value = entry.value.write(alloc)?;
+        put(&mut members, alloc, entry.key.as_str(), value)?;
+    }
+    Ok(members)
+}
+
 /// Texts by their names, in byte order of these. A null stands for nothing.
-#[tactic(auto, unfolding(crate::specs::Kinds::as_text_map))]
-pub(crate) fn text_map_of(alloc: Global, value: &Value) -> Result<TextMap, ShapeFault>
-    ensures { Gives result (spec.as_text_map (view value.now)) }
-{
-    match value.as_object() {
-        Some(members) => entries_in(alloc, members),
-        None => Err(ShapeFault::Shape),
-    }
-}
+impl Member for TextMap {
+    ghost kind = { spec.as_text_map };
 
-fn partition_in(alloc: Global, members: &Map<String, Value>) -> Result<PartitionMap, ShapeFault>
-    ensures { Gives result (spec.partition_in (members_view members.now.entries)) }
-{
-    let mut values = Vec::new(alloc);
-    for (name, value) in members.iter() {
-        let value = text_or_null(alloc, value)?;
-        let column = Text::make(alloc, name.as_str())?;
-        values.push(PartitionValue { column, value })?;
-    }
-    Ok(PartitionMap::make(values))
-}
+    ghost written = { text_map_data };
 
-/// Texts and nulls by the names of columns, in byte order of these.
-#[tactic(auto, unfolding(crate::specs::Kinds::as_partition_map))]
-pub(crate) fn partition_map_of(alloc: Global, value: &Value) -> Result<PartitionMap, ShapeFault>
-    ensures { Gives result (spec.as_partition_map (view value.now)) }
-{
-    match value.as_object() {
-        Some(members) => partition_in(alloc, members),
-        None => Err(ShapeFault::Shape),
+    #[tactic(auto, unfolding(crate::specs::Kinds::as_text_map))]
+    fn read(alloc: Global, value: &Value) -> Result<TextMap, ShapeFault> {
+        match value.as_object() {
+            Some(members) => entries_in(alloc, members),
+            None => Err(ShapeFault::Shape),
+        }
+    }
+
+    fn write(&self, alloc: Global) -> Result<Value, NoMemory> {
+        Ok(Value::Object(entries_members(alloc, self.as_slice())?))
     }
 }

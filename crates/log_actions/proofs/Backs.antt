@@ -4,8 +4,9 @@ use Rattle.std.specs.Prelude.{IfSome}
 use Rattle.std.proofs.lemmas.Bool.Decides.{nat_tests}
 use Rattle.serde_json.specs.Data.{Data, boolean, string, object}
 use Rattle.serde_json.specs.Find.{as_str, as_bool}
-use Rattle.json_lines.specs.Kinds.{as_integer, as_texts, as_text_map, as_partition_map, needed, optional}
-use Rattle.json_lines.specs.Written.{integer_data, texts_data, text_map_data, partition_data}
+use Rattle.json_lines.specs.Kinds.{as_integer, as_texts, as_text_map, needed, optional}
+use Rattle.json_lines.specs.Written.{integer_data, texts_data, text_map_data}
+use Rattle.log_actions.specs.PartitionMaps.{as_partition_map, partition_data}
 use Rattle.log_actions.specs.declared.action.Protocol.{Protocol}
 use Rattle.log_actions.specs.declared.action.Format.{Format}
 use Rattle.log_actions.specs.declared.action.MetaData.{MetaData}
@@ -141,6 +142,6 @@ unfolding sidecar_of
 sidecar_back s h =
     let D : Data = object (members_of (sidecar_fields s)) in
     let is_path : needed as_str (codes "path") D ≡ Some s.path = needed_in as_str (codes "path") (sidecar_fields s) in
-    let is_size_in_bytes : needed as_amount (codes "sizeInBytes") D ≡ Some s.size_in_bytes = needed_in as_amount (codes "sizeInBytes") (sidecar_fields s) ∙ amount_back s.size_in_bytes h.0 in
-    let is_modification_time : optional as_amount (codes "modificationTime") D ≡ Some s.modification_time = optional_in as_amount (codes "modificationTime") (sidecar_fields s) ∙ optional_back as_amount integer_data s.modification_time (if_some s.modification_time amount_back h.1) in
-    rw (is_path, is_size_in_bytes, is_modification_time) refl
+    let is_size_in_bytes : needed as_amount (codes "sizeInBytes") D ≡ Some s.size_in_bytes = needed_in as_amount (codes "sizeInBytes") (sidecar_fields s) ∙ amount_back s.size_in_bytes h.1 in
+    let is_modification_time : optional as_amount (codes "modificationTime") D ≡ Some s.modification_time = optional_in as_amount (codes "modificationTime") (sidecar_fields s) ∙ optional_back as_amount integer_data s.modification_time (if_some s.modification_time amount_back h.2) in
+    rw (is_path, h.0.1.named, is_size_in_bytes, is_modification_time) refl

@@ -6,8 +6,9 @@ use Rattle.std.specs.Ordering.{nat_cmp, match_ordering}
 use Rattle.std.specs.Cmp.Lexicographic.{slice_cmp}
 use Rattle.serde_json.specs.Data.{Data, string, Members, no_members, member, put}
 use Rattle.json_lines.specs.declared.map.Entry.{Entry}
-use Rattle.json_lines.specs.declared.map.PartitionValue.{PartitionValue}
-use Rattle.json_lines.specs.Written.{with_member, entries_data, values_data, text_or_null_data}
+use Rattle.log_actions.specs.PartitionMaps.{values_data}
+use Rattle.log_actions.specs.declared.partition_map.PartitionValue.{PartitionValue}
+use Rattle.json_lines.specs.Written.{with_member, entries_data, text_or_null_data}
 use Rattle.log_actions.specs.Written.{Fields, members_with, members_of}
 
 abbrev pub AllMembers : (Data → Type 0) → Members → Type 0

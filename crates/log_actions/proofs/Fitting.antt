@@ -4,8 +4,9 @@ use Rattle.std.specs.Prelude.{IfSome}
 use Rattle.serde_json.specs.Data.{Data, boolean, string, object, Members, no_members, member, depth, items_depth, members_depth}
 use Rattle.serde_json.specs.View.{items_of}
 use Rattle.json_lines.specs.declared.map.Entry.{Entry}
-use Rattle.json_lines.specs.declared.map.PartitionValue.{PartitionValue}
-use Rattle.json_lines.specs.Written.{integer_data, texts_data, text_map_data, partition_data, text_or_null_data, single_object, FitsData, FitsItems, FitsMembers}
+use Rattle.log_actions.specs.PartitionMaps.{partition_data}
+use Rattle.log_actions.specs.declared.partition_map.PartitionValue.{PartitionValue}
+use Rattle.json_lines.specs.Written.{integer_data, texts_data, text_map_data, text_or_null_data, single_object, FitsData, FitsItems, FitsMembers}
 use Rattle.log_actions.specs.declared.action.Format.{Format}
 use Rattle.log_actions.specs.declared.action.Action.{Action}
 use Rattle.log_actions.specs.declared.action.Action.TheVariants.{Protocol, Meta, Add, Remove, Txn, Info, Checkpoint, Sidecar, Ignored}
@@ -128,7 +129,7 @@ action_fits (Info i) h =
     single_fits (codes "commitInfo") (commit_info_fields i)
     (flag_there i.is_blind_append, (text_there i.isolation_level, (text_there i.operation, (integer_there IsVersion i.read_version version_fits h.1, (integer_there IsStamp i.timestamp stamp_fits h.0, (text_there i.txn_id, tt))))))
 action_fits (Checkpoint c) h = single_fits (codes "checkpointMetadata") (checkpoint_fields c) (map_there c.tags, (version_fits c.version h.0, tt))
-action_fits (Sidecar s) h = single_fits (codes "sidecar") (sidecar_fields s) (integer_there IsAmount s.modification_time amount_fits h.1, (text_fits 2 s.path, (amount_fits s.size_in_bytes h.0, tt)))
+action_fits (Sidecar s) h = single_fits (codes "sidecar") (sidecar_fields s) (integer_there IsAmount s.modification_time amount_fits h.2, (text_fits 2 s.path, (amount_fits s.size_in_bytes h.1, tt)))
 action_fits Ignored h = tt
 
 -- the value of a whole action is shallow

@@ -1,4 +1,5 @@
 pub mod Names
+pub mod ValueSteps
 pub mod Judging
 pub mod Fields
 pub mod Floats

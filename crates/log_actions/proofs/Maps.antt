@@ -10,9 +10,10 @@ use Rattle.std.proofs.lemmas.List.{append-nil}
 use Rattle.serde_json.specs.Data.{Data, string, Members, no_members, member, put}
 use Rattle.serde_json.specs.View.{items_of}
 use Rattle.json_lines.specs.declared.map.Entry.{Entry}
-use Rattle.json_lines.specs.declared.map.PartitionValue.{PartitionValue}
-use Rattle.json_lines.specs.Kinds.{text_or_null, entries_in, with_entry, partition_in, texts_in, as_texts, as_text_map, as_partition_map}
-use Rattle.json_lines.specs.Written.{entries_data, values_data, text_or_null_data, texts_data, text_map_data, partition_data}
+use Rattle.log_actions.specs.PartitionMaps.{partition_in, as_partition_map, values_data, partition_data}
+use Rattle.log_actions.specs.declared.partition_map.PartitionValue.{PartitionValue}
+use Rattle.json_lines.specs.Kinds.{text_or_null, entries_in, with_entry, texts_in, as_texts, as_text_map}
+use Rattle.json_lines.specs.Written.{entries_data, text_or_null_data, texts_data, text_map_data}
 use Rattle.log_actions.specs.Whole.{IsMap, AreValues}
 use Rattle.log_actions.proofs.Members.{ReadsAs}
 

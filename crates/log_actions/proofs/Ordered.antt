@@ -14,9 +14,10 @@ use Rattle.serde_json.specs.Data.{Num, Data, null, boolean, number, string, arra
 use Rattle.serde_json.specs.Find.{get, get_member}
 use Rattle.serde_json.specs.Read.{number_of, of_json, of_items, of_members, max_depth, read}
 use Rattle.json_lines.specs.declared.map.Entry.{Entry}
-use Rattle.json_lines.specs.Kinds.{as_itself, unless_null, present, text_or_null, with_entry, entries_in, partition_in, as_text_map, as_partition_map}
+use Rattle.json_lines.specs.Kinds.{as_itself, unless_null, present, text_or_null, with_entry, entries_in, as_text_map}
 use Rattle.json_lines.specs.Lines.{value_of_line, object_of_line}
 use Rattle.json_lines.specs.Single.{put_first, present_members, only_one, single_member, Named}
+use Rattle.log_actions.specs.PartitionMaps.{partition_in, as_partition_map}
 use Rattle.log_actions.specs.Whole.{IsMap, AreValues}
 
 -- P of what is there

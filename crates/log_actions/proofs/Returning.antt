@@ -62,7 +62,8 @@ lines_of earlier (Txn t) h new returns = line_of (codes "txn") (members_of (txn_
 lines_of earlier (Info i) h new returns = line_of (codes "commitInfo") (members_of (commit_info_fields i)) earlier (Info i) returns (ap (option_map Info) (commit_info_back i h)) new refl
 lines_of earlier (Checkpoint c) h new returns =
     line_of (codes "checkpointMetadata") (members_of (checkpoint_fields c)) earlier (Checkpoint c) returns (ap (option_map Checkpoint) (checkpoint_back c h)) new refl
-lines_of earlier (Sidecar s) h new returns = line_of (codes "sidecar") (members_of (sidecar_fields s)) earlier (Sidecar s) returns (ap (option_map Sidecar) (sidecar_back s h)) new refl
+lines_of earlier (Sidecar s) h new returns = line_of (codes "sidecar") (members_of (sidecar_fields s)) earlier (Sidecar s) returns (ap (option_map Sidecar) (sidecar_back s h)) new
+    (ap (λ b. if b then Some features.AbsolutePath else None) h.0.1.inside)
 lines_of earlier Ignored h new returns = tt
 
 has_data : (a : Action) → IsWhole a → is_some (action_data a) ≡ true

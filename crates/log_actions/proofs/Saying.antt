@@ -128,7 +128,8 @@ not_long : (bytes : List ℕ) (b : Bool) → nat_lt max_bytes (length bytes) ≡
 not_long bytes true is h = absurd (omega (arith, ltb-true max_bytes (length bytes) is))
 not_long bytes false is h = refl
 
-reads_all : (bytes : List ℕ) (all : List Action) → Commit bytes all → actions_of bytes ≡ Ok all
+-- what a text says is what it is read as
+pub reads_all : (bytes : List ℕ) (all : List Action) → Commit bytes all → actions_of bytes ≡ Ok all
 unfolding actions_of
 reads_all bytes all c =
     ap (λ b. if b then (let r : Read = Err (record { line = 1; kind = kinds.Shape }) in r) else actions_from 1 [] (lines bytes)) (not_long bytes (nat_lt max_bytes (length bytes)) refl c.short)

@@ -4,10 +4,11 @@ use Rattle.std.specs.Prelude.{IfSome, unwrap_or}
 use Rattle.std.proofs.lemmas.Bool.Decides.{nat_tests}
 use Rattle.serde_json.specs.Data.{Data, null, boolean, number, string, array, object}
 use Rattle.serde_json.specs.Find.{as_str, as_bool, as_number, as_u64}
-use Rattle.json_lines.specs.Gives.{◌>>=◌}
-use Rattle.json_lines.specs.Kinds.{as_itself, as_integer, up_to, as_texts, as_text_map, as_partition_map, present, needed, optional, if_there}
+use Rattle.row_base.specs.Readings.{◌>>=◌}
+use Rattle.json_lines.specs.Kinds.{as_itself, as_integer, up_to, as_texts, as_text_map, present, needed, optional, if_there}
 use Rattle.json_lines.specs.Lines.{object_of_line}
 use Rattle.json_lines.specs.Single.{single_member}
+use Rattle.log_actions.specs.PartitionMaps.{as_partition_map}
 use Rattle.log_actions.specs.declared.action.Format.{Format}
 use Rattle.log_actions.specs.declared.action.Protocol.{Protocol}
 use Rattle.log_actions.specs.declared.action.MetaData.{MetaData}
@@ -102,7 +103,7 @@ OfFormat f = IfSome f.options IsMap
 abbrev OfMeta : MetaData → Type 0
 OfMeta m = IsWhole (actions.Meta m)
 
--- a file is whole where its path isn't absolute
+-- a file or a sidecar is whole where its path isn't absolute
 abbrev IfInside : List ℕ → Type 0 → Type 0
 IfInside path P = is_absolute path ≡ false → P
 
@@ -119,7 +120,7 @@ abbrev OfCheckpoint : CheckpointMetadata → Type 0
 OfCheckpoint c = IsWhole (actions.Checkpoint c)
 
 abbrev OfSidecar : Sidecar → Type 0
-OfSidecar s = IsWhole (actions.Sidecar s)
+OfSidecar s = IfInside s.path (IsWhole (actions.Sidecar s))
 
 protocol_sound : (d : Data) → Ordered d → Each (λ p. IsWhole (actions.Protocol p)) (protocol_of d)
 unfolding protocol_of
@@ -183,10 +184,12 @@ checkpoint_sound : (d : Data) → Ordered d → Each (λ c. IsWhole (actions.Che
 unfolding checkpoint_of
 checkpoint_sound d o = Each-bind IsVersion OfCheckpoint _ _ (λ version v. Each-bind (λ y. IfSome y IsMap) OfCheckpoint _ _ (λ tags m. (v, m)) (maybe_map (codes "tags") d o)) (version_in (codes "version") d o)
 
-sidecar_sound : (d : Data) → Ordered d → Each (λ s. IsWhole (actions.Sidecar s)) (sidecar_of d)
+sidecar_sound : (d : Data) → Ordered d → Each (λ s. IfInside s.path (IsWhole (actions.Sidecar s))) (sidecar_of d)
 unfolding sidecar_of
 sidecar_sound d o =
-    any_bind OfSidecar _ (needed as_str (codes "path") d) (λ path. Each-bind IsAmount OfSidecar _ _ (λ size s. Each-bind (λ y. IfSome y IsAmount) OfSidecar _ _ (λ time t. (s, t)) (maybe_amount (codes "modificationTime") d o)) (amount_in (codes "sizeInBytes") d o))
+    any_bind OfSidecar _ (needed as_str (codes "path") d) (λ path. Each-bind (λ name. name_of_path path ≡ Some name) OfSidecar _ _ (λ name n.
+    Each-bind IsAmount OfSidecar _ _ (λ size s. Each-bind (λ y. IfSome y IsAmount) OfSidecar _ _ (λ time t. λ inside. ((name, record { named = n; inside = inside }), s, t)) (maybe_amount (codes "modificationTime") d o))
+    (amount_in (codes "sizeInBytes") d o)) (each_itself (name_of_path path)))
 
 -- whole, where nothing of it is unsupported or left out
 abbrev Sound : Data → Action → Type 0
@@ -205,7 +208,7 @@ by_sound names.Remove d o = Each-map (λ f. IfInside f.path (IsWhole (actions.Re
 by_sound names.Txn d o = Each-map (λ (t : Txn). IsVersion t.version) (Sound d) actions.Txn (txn_of d) (λ t h _ w. (h, w)) (txn_sound d o)
 by_sound names.Info d o = Each-map (λ i. IsWhole (actions.Info i)) (Sound d) actions.Info (commit_info_of d) (λ i h _ _. h) (commit_info_sound d o)
 by_sound names.Checkpoint d o = Each-map (λ c. IsWhole (actions.Checkpoint c)) (Sound d) actions.Checkpoint (checkpoint_of d) (λ c h _ _. h) (checkpoint_sound d o)
-by_sound names.Sidecar d o = Each-map (λ s. IsWhole (actions.Sidecar s)) (Sound d) actions.Sidecar (sidecar_of d) (λ s h _ _. h) (sidecar_sound d o)
+by_sound names.Sidecar d o = Each-map (λ s. IfInside s.path (IsWhole (actions.Sidecar s))) (Sound d) actions.Sidecar (sidecar_of d) (λ s h e _. h (not_absolute (is_absolute s.path) None e)) (sidecar_sound d o)
 by_sound names.Other d o = λ _ w. w
 
 -- lines

@@ -3,8 +3,9 @@ use Rattle.std.specs.Prelude.{ℕ, ◌^◌, ◌-◌, List, codes, if◌then◌el
 use Rattle.std.specs.Str.{bytes_eq}
 use Rattle.serde_json.specs.Data.{Data}
 use Rattle.serde_json.specs.Find.{as_str, as_bool}
-use Rattle.json_lines.specs.Gives.{◌>>=◌}
-use Rattle.json_lines.specs.Kinds.{as_itself, as_integer, as_texts, as_text_map, as_partition_map, present, needed, optional}
+use Rattle.row_base.specs.Readings.{◌>>=◌}
+use Rattle.json_lines.specs.Kinds.{as_itself, as_integer, as_texts, as_text_map, present, needed, optional}
+use Rattle.log_actions.specs.PartitionMaps.{as_partition_map}
 use Rattle.log_actions.specs.Paths.{name_of_path, is_absolute}
 use Rattle.log_actions.specs.declared.action.Protocol.{Protocol}
 use Rattle.log_actions.specs.declared.action.Format.{Format}
@@ -26,12 +27,15 @@ use Rattle.log_actions.specs.declared.fault.Feature.TheVariants as features
 abbrev pub as_version : Data → Option ℕ
 as_version d = as_integer (2 ^ 64 - 1) d
 
+-- a size or a time
 abbrev pub as_amount : Data → Option ℕ
 as_amount d = as_integer (2 ^ 63 - 1) d
 
+-- the time of a commit
 abbrev pub as_stamp : Data → Option ℕ
 as_stamp d = as_integer (2 ^ 62) d
 
+-- a protocol (PROTOCOL.md, "Protocol Evolution")
 unfoldable pub protocol_of : Data → Option Protocol
 protocol_of d =
     needed as_version (codes "minReaderVersion") d >>= λ reader.
@@ -40,12 +44,14 @@ protocol_of d =
     optional as_texts (codes "writerFeatures") d >>= λ writes.
     Some (record { min_reader_version = reader; min_writer_version = writer; reader_features = reads; writer_features = writes })
 
+-- the format of data files (PROTOCOL.md, "Format Specification")
 unfoldable pub format_of : Data → Option Format
 format_of d =
     needed as_str (codes "provider") d >>= λ provider.
     optional as_text_map (codes "options") d >>= λ options.
     Some (record { provider = provider; options = options })
 
+-- the metadata of a table (PROTOCOL.md, "Change Metadata")
 unfoldable pub metadata_of : Data → Option MetaData
 metadata_of d =
     optional as_amount (codes "createdTime") d >>= λ created.
@@ -58,6 +64,7 @@ metadata_of d =
     optional as_text_map (codes "configuration") d >>= λ configuration.
     Some (record { id = id; name = name; description = description; format = format; schema_string = schema; partition_columns = columns; created_time = created; configuration = configuration })
 
+-- a file that is added (PROTOCOL.md, "Add File and Remove File")
 unfoldable pub add_of : Data → Option AddFile
 add_of d =
     needed as_str (codes "path") d >>= λ path.
@@ -70,6 +77,7 @@ add_of d =
     optional as_text_map (codes "tags") d >>= λ tags.
     Some (record { path = path; name = name; partition_values = values; size = size; modification_time = time; data_change = change; stats = stats; tags = tags })
 
+-- a file that is removed
 unfoldable pub remove_of : Data → Option RemoveFile
 remove_of d =
     needed as_str (codes "path") d >>= λ path.
@@ -82,6 +90,7 @@ remove_of d =
     optional as_text_map (codes "tags") d >>= λ tags.
     Some (record { path = path; name = name; deletion_timestamp = unwrap_or time 0; data_change = change; extended_file_metadata = extended; partition_values = values; size = size; tags = tags })
 
+-- the version of an application (PROTOCOL.md, "Transaction Identifiers")
 unfoldable pub txn_of : Data → Option Txn
 txn_of d =
     needed as_str (codes "appId") d >>= λ app.
@@ -100,18 +109,22 @@ said_in d = record {
   txn_id = needed as_str (codes "txnId") d;
 }
 
+-- where a commit came from (PROTOCOL.md, "Commit Provenance Information"), which any object says
 unfoldable pub commit_info_of : Data → Option CommitInfo
 commit_info_of d = option_map said_in (as_itself d)
 
+-- the head of a checkpoint (PROTOCOL.md, "Checkpoint Metadata")
 unfoldable pub checkpoint_of : Data → Option CheckpointMetadata
 checkpoint_of d =
     needed as_version (codes "version") d >>= λ version.
     optional as_text_map (codes "tags") d >>= λ tags.
     Some (record { version = version; tags = tags })
 
+-- a part of a checkpoint (PROTOCOL.md, "Sidecar File Information"), whose path has a name like that of each file
 unfoldable pub sidecar_of : Data → Option Sidecar
 sidecar_of d =
     needed as_str (codes "path") d >>= λ path.
+    name_of_path path >>= λ name.
     needed as_amount (codes "sizeInBytes") d >>= λ size.
     optional as_amount (codes "modificationTime") d >>= λ time.
     Some (record { path = path; size_in_bytes = size; modification_time = time })
@@ -129,6 +142,7 @@ name_of text =
     if bytes_eq text (codes "sidecar") then names.Sidecar else
     names.Other
 
+-- the action of a name that a value is
 abbrev pub action_by : ActionName → Data → Option Action
 action_by names.Protocol d = option_map actions.Protocol (protocol_of d)
 action_by names.Meta d = option_map actions.Meta (metadata_of d)
@@ -148,6 +162,11 @@ action_of name d = action_by (name_of name) d
 abbrev pub file_feature : Data → List ℕ → Option Feature
 file_feature d path = if is_absolute path then Some features.AbsolutePath else (if is_some (present (codes "deletionVector") d) then Some features.DeletionVector else None)
 
+-- what a path asks for and isn't supported
+abbrev pub path_feature : List ℕ → Option Feature
+path_feature path = if is_absolute path then Some features.AbsolutePath else None
+
+-- what an action asks for and isn't supported
 unfoldable pub feature_in : Data → Action → Option Feature
 feature_in d (actions.Protocol p) = None
 feature_in d (actions.Meta m) = None
@@ -156,5 +175,5 @@ feature_in d (actions.Remove f) = file_feature d f.path
 feature_in d (actions.Txn t) = None
 feature_in d (actions.Info i) = None
 feature_in d (actions.Checkpoint c) = None
-feature_in d (actions.Sidecar s) = None
+feature_in d (actions.Sidecar s) = path_feature s.path
 feature_in d actions.Ignored = None

@@ -16,6 +16,7 @@ abbrev pub or_fault : {A B : Type 0} → LogFaultKind → Option A → (A → Re
 or_fault kind None f = Err kind
 or_fault kind (Some x) f = f x
 
+-- the action, unless it asks for what is not supported
 abbrev pub unless_unsupported : Option Feature → Action → Result Action LogFaultKind
 unless_unsupported None a = Ok a
 unless_unsupported (Some f) a = Err (kinds.Unsupported f)
@@ -24,10 +25,12 @@ unless_unsupported (Some f) a = Err (kinds.Unsupported f)
 abbrev pub admitted : List Action → Data → Action → Result Action LogFaultKind
 admitted earlier d a = if is_twice earlier a then Err kinds.Twice else unless_unsupported (feature_in d a) a
 
+-- what a member says behind earlier actions
 abbrev pub judged_member : List Action → List ℕ → Data → Result Action LogFaultKind
 judged_member earlier name d =
     or_fault kinds.Shape (action_of name d) (admitted earlier d)
 
+-- what a line's object says behind earlier actions
 abbrev pub judged_object : List Action → Data → Result Action LogFaultKind
 judged_object earlier d = or_fault kinds.Shape (single_member d) (λ m. judged_member earlier m.0 m.1)
 
@@ -35,6 +38,7 @@ judged_object earlier d = or_fault kinds.Shape (single_member d) (λ m. judged_m
 unfoldable pub judged : List Action → List ℕ → Result Action LogFaultKind
 judged earlier line = or_fault kinds.Json (object_of_line line) (judged_object earlier)
 
+-- what comes next behind the action of a line with this number
 abbrev pub onward : ℕ → Result Action LogFaultKind → (Action → Result (List Action) LogFault) → Result (List Action) LogFault
 onward number (Ok a) f = f a
 onward number (Err kind) f = Err (record { line = number; kind = kind })
@@ -61,8 +65,10 @@ IsKind kinds.Twice P = P
 IsKind (kinds.Unsupported f) P = P
 IsKind kinds.NoMemory P = Unit {0}
 
+-- the same of a line's fault
 abbrev pub KindOf : LogFaultKind → Result Action LogFaultKind → Type 0
 KindOf kind r = IsKind kind (r ≡ Err kind)
 
+-- the same of a text's fault
 abbrev pub FaultOf : LogFault → Result (List Action) LogFault → Type 0
 FaultOf fault r = IsKind fault.kind (r ≡ Err fault)

@@ -1,3 +1,4 @@
+pub mod PartitionMaps
 pub mod Paths
 pub mod Actions
 pub mod Twice

@@ -7,6 +7,7 @@ use Rattle.log_actions.specs.declared.action.Action.TheVariants.{Protocol, Meta,
 use Rattle.log_actions.specs.declared.named.Named.{Named}
 use Rattle.log_actions.specs.Twice.{is_protocol, is_metadata, is_of_application, is_on_path}
 
+-- a name is among these
 unfoldable pub has : List (List ℕ) → List ℕ → Bool
 has names q = list_any (λ name. bytes_eq q name) names
 

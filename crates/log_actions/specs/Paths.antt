@@ -4,6 +4,7 @@ use Rattle.std.specs.Char.{is_ascii_alphabetic, is_ascii_alphanumeric}
 use Rattle.std.specs.Str.{is_utf8}
 use Rattle.percent_encoding.specs.Percent.{percent_decode}
 
+-- bytes that are UTF-8
 abbrev pub if_utf8 : List ℕ → Option (List ℕ)
 if_utf8 bytes = if is_utf8 bytes then Some bytes else None
 

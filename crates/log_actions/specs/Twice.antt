@@ -5,6 +5,7 @@ use Rattle.std.specs.Str.{bytes_eq}
 use Rattle.log_actions.specs.declared.action.Action.{Action}
 use Rattle.log_actions.specs.declared.action.Action.TheVariants.{Protocol, Meta, Add, Remove, Txn, Info, Checkpoint, Sidecar, Ignored}
 
+-- an action that sets the protocol
 abbrev pub is_protocol : Action → Bool
 is_protocol (Protocol p) = true
 is_protocol (Meta m) = false
@@ -16,6 +17,7 @@ is_protocol (Checkpoint c) = false
 is_protocol (Sidecar s) = false
 is_protocol Ignored = false
 
+-- an action that sets the metadata
 abbrev pub is_metadata : Action → Bool
 is_metadata (Protocol p) = false
 is_metadata (Meta m) = true

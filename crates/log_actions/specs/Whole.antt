@@ -4,7 +4,7 @@ use Rattle.std.specs.Ordering.{nat_cmp}
 use Rattle.std.specs.Cmp.Lexicographic.{slice_cmp}
 use Rattle.std.specs.List.Sorted.{IsStrictlySortedBy}
 use Rattle.json_lines.specs.declared.map.Entry.{Entry}
-use Rattle.json_lines.specs.declared.map.PartitionValue.{PartitionValue}
+use Rattle.log_actions.specs.declared.partition_map.PartitionValue.{PartitionValue}
 use Rattle.log_actions.specs.declared.action.Action.{Action}
 use Rattle.log_actions.specs.declared.action.Action.TheVariants.{Protocol, Meta, Add, Remove, Txn, Info, Checkpoint, Sidecar, Ignored}
 use Rattle.log_actions.specs.Paths.{name_of_path, is_absolute}
@@ -14,13 +14,15 @@ use Rattle.serde_json.specs.Data.{Data}
 use Rattle.serde_json.specs.Written.{compact_text}
 use Rattle.json_lines.specs.Lines.{value_of_line}
 
+-- a version has 64 bits
 abbrev pub IsVersion : ℕ → Type 0
 IsVersion n = n ≤ 2 ^ 64 - 1
 
--- a size or a time
+-- a size or a time has 63 bits
 abbrev pub IsAmount : ℕ → Type 0
 IsAmount n = n ≤ 2 ^ 63 - 1
 
+-- the time of a commit
 abbrev pub IsStamp : ℕ → Type 0
 IsStamp n = n ≤ 2 ^ 62
 
@@ -28,6 +30,7 @@ IsStamp n = n ≤ 2 ^ 62
 abbrev pub IsMap : List Entry → Type 0
 IsMap es = IsStrictlySortedBy (slice_cmp nat_cmp) (map (λ e. e.key) es)
 
+-- columns in byte order of their names, each once
 abbrev pub AreValues : List PartitionValue → Type 0
 AreValues vs = IsStrictlySortedBy (slice_cmp nat_cmp) (map (λ v. v.column) vs)
 
@@ -45,7 +48,7 @@ IsWhole (Remove f) = IsPath f.path f.name × IsAmount f.deletion_timestamp × If
 IsWhole (Txn t) = IsVersion t.version × (t.last_updated ≡ None)
 IsWhole (Info i) = IfSome i.timestamp IsStamp × IfSome i.read_version IsVersion
 IsWhole (Checkpoint c) = IsVersion c.version × IfSome c.tags IsMap
-IsWhole (Sidecar s) = IsAmount s.size_in_bytes × IfSome s.modification_time IsAmount
+IsWhole (Sidecar s) = ((name : List ℕ) × IsPath s.path name) × IsAmount s.size_in_bytes × IfSome s.modification_time IsAmount
 IsWhole Ignored = ⊥
 
 -- actions behind earlier ones, each whole and none twice
@@ -57,6 +60,7 @@ AreWhole earlier (a ∷ more) = IsWhole a × (is_twice earlier a ≡ false) × A
 abbrev pub Returns : Data → Type 0
 Returns d = value_of_line (compact_text d) ≡ Some d
 
+-- where there is a value
 abbrev pub IfReturned : Option Data → Type 0
 IfReturned None = Unit {0}
 IfReturned (Some d) = Returns d
@@ -65,6 +69,7 @@ IfReturned (Some d) = Returns d
 abbrev pub ReturnsIfWhole : Action → Type 0
 ReturnsIfWhole a = IsWhole a → IfReturned (action_data a)
 
+-- the same of each action
 abbrev pub AllReturn : List Action → Type 0
 AllReturn [] = Unit {0}
 AllReturn (a ∷ more) = ReturnsIfWhole a × AllReturn more
@@ -81,6 +86,7 @@ IsWritten (Checkpoint c) = Unit {0}
 IsWritten (Sidecar s) = Unit {0}
 IsWritten Ignored = ⊥
 
+-- the same of each action
 abbrev pub AreWritten : List Action → Type 0
 AreWritten [] = Unit {0}
 AreWritten (a ∷ more) = IsWritten a × AreWritten more

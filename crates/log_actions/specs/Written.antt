@@ -2,7 +2,8 @@
 use Rattle.std.specs.Prelude.{ℕ, List, [], ◌∷◌, codes, Option, Some, None, option_map}
 use Rattle.std.specs.List.{flat_map}
 use Rattle.serde_json.specs.Data.{Data, boolean, string, object, Members, no_members}
-use Rattle.json_lines.specs.Written.{with_member, integer_data, texts_data, text_map_data, partition_data, single_object, line_text}
+use Rattle.json_lines.specs.Written.{with_member, integer_data, texts_data, text_map_data, single_object, line_text}
+use Rattle.log_actions.specs.PartitionMaps.{partition_data}
 use Rattle.log_actions.specs.declared.action.Protocol.{Protocol}
 use Rattle.log_actions.specs.declared.action.Format.{Format}
 use Rattle.log_actions.specs.declared.action.MetaData.{MetaData}
@@ -19,13 +20,16 @@ use Rattle.log_actions.specs.declared.action.Action.TheVariants as actions
 abbrev pub Fields : Type 0
 Fields = List (List ℕ × Option Data)
 
+-- members with these put in
 abbrev pub members_with : Members → Fields → Members
 members_with ms [] = ms
 members_with ms (f ∷ fs) = members_with (with_member f.0 f.1 ms) fs
 
+-- the members of an object with these fields
 unfoldable pub members_of : Fields → Members
 members_of fs = members_with no_members fs
 
+-- the members of a protocol
 abbrev pub protocol_fields : Protocol → Fields
 protocol_fields p =
     (codes "minReaderVersion", Some (integer_data p.min_reader_version))
@@ -34,12 +38,14 @@ protocol_fields p =
     ∷ (codes "writerFeatures", option_map texts_data p.writer_features)
     ∷ []
 
+-- the members of a format
 abbrev pub format_fields : Format → Fields
 format_fields f =
     (codes "options", option_map text_map_data f.options)
     ∷ (codes "provider", Some (string f.provider))
     ∷ []
 
+-- the members of metadata
 abbrev pub metadata_fields : MetaData → Fields
 metadata_fields m =
     (codes "configuration", option_map text_map_data m.configuration)
@@ -52,6 +58,7 @@ metadata_fields m =
     ∷ (codes "schemaString", Some (string m.schema_string))
     ∷ []
 
+-- the members of a file that is added
 abbrev pub add_fields : AddFile → Fields
 add_fields f =
     (codes "dataChange", Some (boolean f.data_change))
@@ -63,6 +70,7 @@ add_fields f =
     ∷ (codes "tags", option_map text_map_data f.tags)
     ∷ []
 
+-- the members of a file that is removed
 abbrev pub remove_fields : RemoveFile → Fields
 remove_fields f =
     (codes "dataChange", Some (boolean f.data_change))
@@ -81,6 +89,7 @@ txn_fields t =
     ∷ (codes "version", Some (integer_data t.version))
     ∷ []
 
+-- the members that say where a commit came from
 abbrev pub commit_info_fields : CommitInfo → Fields
 commit_info_fields i =
     (codes "isBlindAppend", option_map boolean i.is_blind_append)
@@ -91,12 +100,14 @@ commit_info_fields i =
     ∷ (codes "txnId", option_map string i.txn_id)
     ∷ []
 
+-- the members of the head of a checkpoint
 abbrev pub checkpoint_fields : CheckpointMetadata → Fields
 checkpoint_fields c =
     (codes "tags", option_map text_map_data c.tags)
     ∷ (codes "version", Some (integer_data c.version))
     ∷ []
 
+-- the members of a sidecar
 abbrev pub sidecar_fields : Sidecar → Fields
 sidecar_fields s =
     (codes "modificationTime", option_map integer_data s.modification_time)
@@ -116,10 +127,12 @@ action_data (actions.Checkpoint c) = Some (single_object (codes "checkpointMetad
 action_data (actions.Sidecar s) = Some (single_object (codes "sidecar") (members_of (sidecar_fields s)))
 action_data actions.Ignored = None
 
+-- the line of a value, where there is one
 abbrev pub line_of_data : Option Data → List ℕ
 line_of_data None = []
 line_of_data (Some d) = line_text d
 
+-- the line of an action
 abbrev pub line_of_action : Action → List ℕ
 line_of_action a = line_of_data (action_data a)
 

@@ -1,7 +1,8 @@
 //! The actions and their members (PROTOCOL.md, "Actions").
 
-use json_lines::{PartitionMap, TextMap};
-use row_base::{Text, Texts};
+use crate::partition_map::PartitionMap;
+use json_lines::TextMap;
+use row_base::{Items, Text};
 
 /// The versions of the protocol that reading and writing the table need, and its features (PROTOCOL.md, "Protocol
 /// Evolution").
@@ -9,8 +10,8 @@ use row_base::{Text, Texts};
 pub struct Protocol {
     pub min_reader_version: u64,
     pub min_writer_version: u64,
-    pub reader_features: Option<Texts>,
-    pub writer_features: Option<Texts>,
+    pub reader_features: Option<Items<Text>>,
+    pub writer_features: Option<Items<Text>>,
 }
 
 /// The format of a table's data files (PROTOCOL.md, "Format Specification").
@@ -28,7 +29,7 @@ pub struct MetaData {
     pub description: Option<Text>,
     pub format: Format,
     pub schema_string: Text,
-    pub partition_columns: Texts,
+    pub partition_columns: Items<Text>,
     /// In milliseconds since 1970, at most 2^63 - 1.
     pub created_time: Option<u64>,
     pub configuration: Option<TextMap>,

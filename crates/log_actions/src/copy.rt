@@ -5,15 +5,16 @@ use crate::action::{
     Action, AddFile, CheckpointMetadata, CommitInfo, Format, MetaData, Protocol, RemoveFile,
     Sidecar, Txn,
 };
-use json_lines::{PartitionMap, TextMap, copy_text};
-use row_base::{NoMemory, Texts};
+use crate::partition_map::PartitionMap;
+use json_lines::{TextMap, copy_text};
+use row_base::{Items, NoMemory, Text, copy_texts};
 use std::alloc::Global;
 
-fn copy_texts(alloc: Global, texts: &Option<Texts>) -> Result<Option<Texts>, NoMemory>
+fn copy_list(alloc: Global, texts: &Option<Items<Text>>) -> Result<Option<Items<Text>>, NoMemory>
     ensures { IfOk result (λ t. t ≡ texts.now) }
 {
     match texts {
-        Some(texts) => Ok(Some(texts.copy(alloc)?)),
+        Some(texts) => Ok(Some(copy_texts(alloc, texts.as_slice())?)),
         None => Ok(None),
     }
 }
@@ -47,8 +48,8 @@ impl Protocol {
         Ok(Protocol {
             min_reader_version: self.min_reader_version,
             min_writer_version: self.min_writer_version,
-            reader_features: copy_texts(alloc, &self.reader_features)?,
-            writer_features: copy_texts(alloc, &self.writer_features)?,
+            reader_features: copy_list(alloc, &self.reader_features)?,
+            writer_features: copy_list(alloc, &self.writer_features)?,
         })
     }
 }
@@ -75,7 +76,7 @@ impl MetaData {
             description: copy_text(&self.description)?,
             format: self.format.copy(alloc)?,
             schema_string: self.schema_string.copy()?,
-            partition_columns: self.partition_columns.copy(alloc)?,
+            partition_columns: copy_texts(alloc, self.partition_columns.as_slice())?,
             created_time: self.created_time,
             configuration: copy_map(alloc, &self.configuration)?,
         })

@@ -9,10 +9,9 @@ mod fault;
 mod line;
 mod name;
 mod named;
+mod partition_map;
 mod path;
 mod read;
-#[cfg(test)]
-mod tests;
 mod write;
 
 pub use action::{
@@ -21,6 +20,7 @@ pub use action::{
 };
 pub use commit::{MAX_COMMIT_BYTES, commits_are_whole, read_commit};
 pub use fault::{Feature, LogFault, LogFaultKind};
-pub use json_lines::{Entry, PartitionMap, PartitionValue, TextMap};
+pub use json_lines::{Entry, TextMap};
+pub use partition_map::{PartitionMap, PartitionValue};
 pub use path::is_absolute;
 pub use write::write_commit;

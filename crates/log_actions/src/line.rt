@@ -28,6 +28,16 @@ fn file_feature(body: &Value, path: &Text) -> Option<Feature>
     }
 }
 
+fn path_feature(path: &Text) -> Option<Feature>
+    ensures { result ≡ spec.path_feature path.now }
+{
+    if is_absolute(path.as_str()) {
+        Some(Feature::AbsolutePath)
+    } else {
+        None
+    }
+}
+
 #[tactic(auto, unfolding(crate::specs::Actions::feature_in))]
 fn feature_in(body: &Value, action: &Action) -> Option<Feature>
     ensures { result ≡ spec.feature_in (view body.now) action.now }
@@ -35,6 +45,7 @@ fn feature_in(body: &Value, action: &Action) -> Option<Feature>
     match action {
         Action::Add(add) => file_feature(body, &add.path),
         Action::Remove(remove) => file_feature(body, &remove.path),
+        Action::Sidecar(sidecar) => path_feature(&sidecar.path),
         _ => None,
     }
 }

@@ -22,23 +22,15 @@ pub(crate) enum ActionName {
 pub(crate) fn action_name(text: &str) -> ActionName
     ensures { result ≡ name_of text.now }
 {
-    if text == "add" {
-        ActionName::Add
-    } else if text == "remove" {
-        ActionName::Remove
-    } else if text == "metaData" {
-        ActionName::Meta
-    } else if text == "protocol" {
-        ActionName::Protocol
-    } else if text == "txn" {
-        ActionName::Txn
-    } else if text == "commitInfo" {
-        ActionName::Info
-    } else if text == "checkpointMetadata" {
-        ActionName::Checkpoint
-    } else if text == "sidecar" {
-        ActionName::Sidecar
-    } else {
-        ActionName::Other
+    match text {
+        "add" => ActionName::Add,
+        "remove" => ActionName::Remove,
+        "metaData" => ActionName::Meta,
+        "protocol" => ActionName::Protocol,
+        "txn" => ActionName::Txn,
+        "commitInfo" => ActionName::Info,
+        "checkpointMetadata" => ActionName::Checkpoint,
+        "sidecar" => ActionName::Sidecar,
+        _ => ActionName::Other,
     }
 }

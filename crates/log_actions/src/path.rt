@@ -1,7 +1,8 @@
 //! Paths of data files.
 ghost use Rattle.std.specs.Prelude.{◌≡◌, IfOk};
 ghost use Rattle.percent_encoding.specs.Percent.{percent_decode};
-ghost use Rattle.json_lines.specs.Gives.{Gives};
+ghost use Rattle.row_base.specs.Readings.{Gives};
+ghost use Rattle.json_lines.specs.Gives.{is_memory};
 ghost use Rattle.log_actions.specs.Paths as spec;
 
 use json_lines::ShapeFault;
@@ -18,7 +19,7 @@ fn decoded(alloc: Global, path: &Text) -> Result<Vec<u8>, NoMemory>
 }
 
 fn if_utf8(bytes: Vec<u8>) -> Result<Text, ShapeFault>
-    ensures { Gives result (spec.if_utf8 bytes.items) }
+    ensures { Gives is_memory (λ x. x) result (spec.if_utf8 bytes.items) }
 {
     match String::from_utf8(bytes) {
         Ok(text) => {
@@ -33,7 +34,7 @@ fn if_utf8(bytes: Vec<u8>) -> Result<Text, ShapeFault>
 /// The path with its percent escapes undone. The fault of its shape says that this is no UTF-8.
 #[tactic(auto, unfolding(crate::specs::Paths::name_of_path))]
 pub(crate) fn name_of_path(alloc: Global, path: &Text) -> Result<Text, ShapeFault>
-    ensures { Gives result (spec.name_of_path path.now) }
+    ensures { Gives is_memory (λ x. x) result (spec.name_of_path path.now) }
 {
     if_utf8(decoded(alloc, path)?)
 }

@@ -1,10 +1,13 @@
 //! Actions read from the members of JSON objects.
 ghost use Rattle.std.specs.Prelude.{◌≡◌, IfOk};
+ghost use Rattle.serde_json.specs.Data.{object};
 ghost use Rattle.serde_json.specs.Find.{as_str, as_bool};
 ghost use Rattle.serde_json.specs.View.{view};
-ghost use Rattle.json_lines.specs.Gives.{Gives};
-ghost use Rattle.json_lines.specs.Kinds.{needed, as_integer};
+ghost use Rattle.row_base.specs.Readings.{Gives};
+ghost use Rattle.json_lines.specs.Gives.{is_memory};
+ghost use Rattle.json_lines.specs.Kinds.{needed as spec_needed, as_integer};
 ghost use Rattle.log_actions.specs.Actions as spec;
+ghost use Rattle.log_actions.specs.Written.{members_of, format_fields};
 
 use crate::action::{
     Action, AddFile, CheckpointMetadata, CommitInfo, Format, MetaData, Protocol, RemoveFile,
@@ -12,11 +15,8 @@ use crate::action::{
 };
 use crate::name::{ActionName, action_name};
 use crate::path::name_of_path;
-use json_lines::{
-    ShapeFault, needed_flag, needed_integer, needed_partition_map, needed_text, needed_texts,
-    optional_flag, optional_integer, optional_partition_map, optional_text, optional_text_map,
-    optional_texts, present,
-};
+use crate::write::format_members;
+use json_lines::{Member, ShapeFault, needed, needed_integer, optional, optional_integer};
 use row_base::{NoMemory, Text};
 use serde_json::Value;
 use std::alloc::Global;
@@ -29,12 +29,12 @@ const MAX_STAMP: u64 = 1 << 62;
 
 #[tactic(auto, unfolding(crate::specs::Actions::protocol_of))]
 fn read_protocol(alloc: Global, body: &Value) -> Result<Protocol, ShapeFault>
-    ensures { Gives result (spec.protocol_of (view body.now)) }
+    ensures { Gives is_memory (λ x. x) result (spec.protocol_of (view body.now)) }
 {
     let min_reader_version = needed_integer(body, "minReaderVersion", u64::MAX)?;
     let min_writer_version = needed_integer(body, "minWriterVersion", u64::MAX)?;
-    let reader_features = optional_texts(alloc, body, "readerFeatures")?;
-    let writer_features = optional_texts(alloc, body, "writerFeatures")?;
+    let reader_features = optional(alloc, body, "readerFeatures")?;
+    let writer_features = optional(alloc, body, "writerFeatures")?;
     Ok(Protocol {
         min_reader_version,
         min_writer_version,
@@ -45,35 +45,40 @@ fn read_protocol(alloc: Global, body: &Value) -> Result<Protocol, ShapeFault>
 
 #[tactic(auto, unfolding(crate::specs::Actions::format_of))]
 fn read_format(alloc: Global, body: &Value) -> Result<Format, ShapeFault>
-    ensures { Gives result (spec.format_of (view body.now)) }
+    ensures { Gives is_memory (λ x. x) result (spec.format_of (view body.now)) }
 {
-    let provider = needed_text(alloc, body, "provider")?;
-    let options = optional_text_map(alloc, body, "options")?;
+    let provider = needed(alloc, body, "provider")?;
+    let options = optional(alloc, body, "options")?;
     Ok(Format { provider, options })
 }
 
-#[tactic(auto, unfolding(json_lines::specs::Kinds::needed))]
-fn needed_format(alloc: Global, body: &Value, name: &str) -> Result<Format, ShapeFault>
-    ensures { Gives result (needed spec.format_of name.now (view body.now)) }
-{
-    match present(body, name) {
-        Some(value) => read_format(alloc, value),
-        None => Err(ShapeFault::Shape),
+/// The format of data files.
+impl Member for Format {
+    ghost kind = { spec.format_of };
+
+    ghost written = { λ f. object (members_of (format_fields f)) };
+
+    fn read(alloc: Global, value: &Value) -> Result<Format, ShapeFault> {
+        read_format(alloc, value)
+    }
+
+    fn write(&self, alloc: Global) -> Result<Value, NoMemory> {
+        Ok(Value::Object(format_members(alloc, self)?))
     }
 }
 
 #[tactic(auto, unfolding(crate::specs::Actions::metadata_of))]
 fn read_metadata(alloc: Global, body: &Value) -> Result<MetaData, ShapeFault>
-    ensures { Gives result (spec.metadata_of (view body.now)) }
+    ensures { Gives is_memory (λ x. x) result (spec.metadata_of (view body.now)) }
 {
     let created_time = optional_integer(body, "createdTime", MAX_AMOUNT)?;
-    let id = needed_text(alloc, body, "id")?;
-    let name = optional_text(alloc, body, "name")?;
-    let description = optional_text(alloc, body, "description")?;
-    let format = needed_format(alloc, body, "format")?;
-    let schema_string = needed_text(alloc, body, "schemaString")?;
-    let partition_columns = needed_texts(alloc, body, "partitionColumns")?;
-    let configuration = optional_text_map(alloc, body, "configuration")?;
+    let id = needed(alloc, body, "id")?;
+    let name = optional(alloc, body, "name")?;
+    let description = optional(alloc, body, "description")?;
+    let format = needed(alloc, body, "format")?;
+    let schema_string = needed(alloc, body, "schemaString")?;
+    let partition_columns = needed(alloc, body, "partitionColumns")?;
+    let configuration = optional(alloc, body, "configuration")?;
     Ok(MetaData {
         id,
         name,
@@ -88,16 +93,16 @@ fn read_metadata(alloc: Global, body: &Value) -> Result<MetaData, ShapeFault>
 
 #[tactic(auto, unfolding(crate::specs::Actions::add_of))]
 fn read_add(alloc: Global, body: &Value) -> Result<AddFile, ShapeFault>
-    ensures { Gives result (spec.add_of (view body.now)) }
+    ensures { Gives is_memory (λ x. x) result (spec.add_of (view body.now)) }
 {
-    let path = needed_text(alloc, body, "path")?;
+    let path: Text = needed(alloc, body, "path")?;
     let name = name_of_path(alloc, &path)?;
-    let partition_values = needed_partition_map(alloc, body, "partitionValues")?;
+    let partition_values = needed(alloc, body, "partitionValues")?;
     let size = needed_integer(body, "size", MAX_AMOUNT)?;
     let modification_time = needed_integer(body, "modificationTime", MAX_AMOUNT)?;
-    let data_change = needed_flag(body, "dataChange")?;
-    let stats = optional_text(alloc, body, "stats")?;
-    let tags = optional_text_map(alloc, body, "tags")?;
+    let data_change = needed(alloc, body, "dataChange")?;
+    let stats = optional(alloc, body, "stats")?;
+    let tags = optional(alloc, body, "tags")?;
     Ok(AddFile {
         path,
         name,
@@ -112,16 +117,16 @@ fn read_add(alloc: Global, body: &Value) -> Result<AddFile, ShapeFault>
 
 #[tactic(auto, unfolding(crate::specs::Actions::remove_of))]
 fn read_remove(alloc: Global, body: &Value) -> Result<RemoveFile, ShapeFault>
-    ensures { Gives result (spec.remove_of (view body.now)) }
+    ensures { Gives is_memory (λ x. x) result (spec.remove_of (view body.now)) }
 {
-    let path = needed_text(alloc, body, "path")?;
+    let path: Text = needed(alloc, body, "path")?;
     let name = name_of_path(alloc, &path)?;
     let deleted = optional_integer(body, "deletionTimestamp", MAX_AMOUNT)?;
-    let data_change = needed_flag(body, "dataChange")?;
-    let extended_file_metadata = optional_flag(body, "extendedFileMetadata")?;
-    let partition_values = optional_partition_map(alloc, body, "partitionValues")?;
+    let data_change = needed(alloc, body, "dataChange")?;
+    let extended_file_metadata = optional(alloc, body, "extendedFileMetadata")?;
+    let partition_values = optional(alloc, body, "partitionValues")?;
     let size = optional_integer(body, "size", MAX_AMOUNT)?;
-    let tags = optional_text_map(alloc, body, "tags")?;
+    let tags = optional(alloc, body, "tags")?;
     Ok(RemoveFile {
         path,
         name,
@@ -136,9 +141,9 @@ fn read_remove(alloc: Global, body: &Value) -> Result<RemoveFile, ShapeFault>
 
 #[tactic(auto, unfolding(crate::specs::Actions::txn_of))]
 fn read_txn(alloc: Global, body: &Value) -> Result<Txn, ShapeFault>
-    ensures { Gives result (spec.txn_of (view body.now)) }
+    ensures { Gives is_memory (λ x. x) result (spec.txn_of (view body.now)) }
 {
-    let app_id = needed_text(alloc, body, "appId")?;
+    let app_id = needed(alloc, body, "appId")?;
     let version = needed_integer(body, "version", u64::MAX)?;
     let last_updated = optional_integer(body, "lastUpdated", MAX_AMOUNT)?;
     Ok(Txn {
@@ -150,9 +155,9 @@ fn read_txn(alloc: Global, body: &Value) -> Result<Txn, ShapeFault>
 
 /// A text, where the member is one.
 fn text_if_one(alloc: Global, body: &Value, name: &str) -> Result<Option<Text>, NoMemory>
-    ensures { IfOk result (λ o. o ≡ needed as_str name.now (view body.now)) }
+    ensures { IfOk result (λ o. o ≡ spec_needed as_str name.now (view body.now)) }
 {
-    match needed_text(alloc, body, name) {
+    match needed(alloc, body, name) {
         Ok(text) => Ok(Some(text)),
         Err(ShapeFault::Shape) => Ok(None),
         Err(ShapeFault::NoMemory) => Err(NoMemory),
@@ -161,7 +166,7 @@ fn text_if_one(alloc: Global, body: &Value, name: &str) -> Result<Option<Text>, 
 
 /// An integer, where the member is one up to the limit.
 fn integer_if_one(body: &Value, name: &str, limit: u64) -> Result<Option<u64>, NoMemory>
-    ensures { IfOk result (λ o. o ≡ needed (as_integer limit) name.now (view body.now)) }
+    ensures { IfOk result (λ o. o ≡ spec_needed (as_integer limit) name.now (view body.now)) }
 {
     match needed_integer(body, name, limit) {
         Ok(number) => Ok(Some(number)),
@@ -171,10 +176,10 @@ fn integer_if_one(body: &Value, name: &str, limit: u64) -> Result<Option<u64>, N
 }
 
 /// A truth value, where the member is one.
-fn flag_if_one(body: &Value, name: &str) -> Result<Option<bool>, NoMemory>
-    ensures { IfOk result (λ o. o ≡ needed as_bool name.now (view body.now)) }
+fn flag_if_one(alloc: Global, body: &Value, name: &str) -> Result<Option<bool>, NoMemory>
+    ensures { IfOk result (λ o. o ≡ spec_needed as_bool name.now (view body.now)) }
 {
-    match needed_flag(body, name) {
+    match needed(alloc, body, name) {
         Ok(flag) => Ok(Some(flag)),
         Err(ShapeFault::Shape) => Ok(None),
         Err(ShapeFault::NoMemory) => Err(NoMemory),
@@ -189,7 +194,7 @@ fn read_said(alloc: Global, body: &Value) -> Result<CommitInfo, NoMemory>
     let operation = text_if_one(alloc, body, "operation")?;
     let read_version = integer_if_one(body, "readVersion", u64::MAX)?;
     let isolation_level = text_if_one(alloc, body, "isolationLevel")?;
-    let is_blind_append = flag_if_one(body, "isBlindAppend")?;
+    let is_blind_append = flag_if_one(alloc, body, "isBlindAppend")?;
     let txn_id = text_if_one(alloc, body, "txnId")?;
     Ok(CommitInfo {
         timestamp,
@@ -203,7 +208,7 @@ fn read_said(alloc: Global, body: &Value) -> Result<CommitInfo, NoMemory>
 
 #[tactic(auto, unfolding(crate::specs::Actions::commit_info_of))]
 fn read_commit_info(alloc: Global, body: &Value) -> Result<CommitInfo, ShapeFault>
-    ensures { Gives result (spec.commit_info_of (view body.now)) }
+    ensures { Gives is_memory (λ x. x) result (spec.commit_info_of (view body.now)) }
 {
     if body.is_object() {
         Ok(read_said(alloc, body)?)
@@ -214,18 +219,19 @@ fn read_commit_info(alloc: Global, body: &Value) -> Result<CommitInfo, ShapeFaul
 
 #[tactic(auto, unfolding(crate::specs::Actions::checkpoint_of))]
 fn read_checkpoint(alloc: Global, body: &Value) -> Result<CheckpointMetadata, ShapeFault>
-    ensures { Gives result (spec.checkpoint_of (view body.now)) }
+    ensures { Gives is_memory (λ x. x) result (spec.checkpoint_of (view body.now)) }
 {
     let version = needed_integer(body, "version", u64::MAX)?;
-    let tags = optional_text_map(alloc, body, "tags")?;
+    let tags = optional(alloc, body, "tags")?;
     Ok(CheckpointMetadata { version, tags })
 }
 
 #[tactic(auto, unfolding(crate::specs::Actions::sidecar_of))]
 fn read_sidecar(alloc: Global, body: &Value) -> Result<Sidecar, ShapeFault>
-    ensures { Gives result (spec.sidecar_of (view body.now)) }
+    ensures { Gives is_memory (λ x. x) result (spec.sidecar_of (view body.now)) }
 {
-    let path = needed_text(alloc, body, "path")?;
+    let path: Text = needed(alloc, body, "path")?;
+    let _name = name_of_path(alloc, &path)?;
     let size_in_bytes = needed_integer(body, "sizeInBytes", MAX_AMOUNT)?;
     let modification_time = optional_integer(body, "modificationTime", MAX_AMOUNT)?;
     Ok(Sidecar {
@@ -239,7 +245,7 @@ fn read_sidecar(alloc: Global, body: &Value) -> Result<Sidecar, ShapeFault>
 /// a needed member of it is absent, or one is of the wrong kind.
 #[tactic(auto, unfolding(crate::specs::Actions::action_of))]
 pub(crate) fn read_action(alloc: Global, name: &str, body: &Value) -> Result<Action, ShapeFault>
-    ensures { Gives result (spec.action_of name.now (view body.now)) }
+    ensures { Gives is_memory (λ x. x) result (spec.action_of name.now (view body.now)) }
 {
     match action_name(name) {
         ActionName::Protocol => Ok(Action::Protocol(read_protocol(alloc, body)?)),

@@ -1,8 +1,7 @@
 //! The text of actions.
 ghost use Rattle.std.specs.Prelude.{◌≡◌, ◌≤◌, ◌++◌, [], length, flat_map, Some, IfOk, OnOk, option_map};
-ghost use Rattle.serde_json.specs.Data.{object};
 ghost use Rattle.serde_json.specs.View.{view, members_view};
-ghost use Rattle.json_lines.specs.Written.{with_member, single_object};
+ghost use Rattle.json_lines.specs.Written.{single_object};
 ghost use Rattle.log_actions.specs.Written as spec;
 ghost use Rattle.log_actions.specs.Commit.{max_bytes};
 ghost use Rattle.log_actions.specs.Grammar.{Commit};
@@ -12,13 +11,9 @@ use crate::action::{
     Action, AddFile, CheckpointMetadata, CommitInfo, Format, MetaData, Protocol, RemoveFile,
     Sidecar, Txn,
 };
-use json_lines::{
-    push_line, put_flag, put_integer, put_optional_flag, put_optional_integer,
-    put_optional_partition_map, put_optional_text, put_optional_text_map, put_optional_texts,
-    put_partition_map, put_text, put_texts, single_value,
-};
+use json_lines::{push_line, put_member, put_optional, single_value};
 use row_base::NoMemory;
-use serde_json::{Map, Value, put};
+use serde_json::{Map, Value};
 use std::alloc::Global;
 
 /// The members of an object.
@@ -29,25 +24,25 @@ fn protocol_members(alloc: Global, protocol: &Protocol) -> Result<Members, NoMem
     ensures { IfOk result (λ m. members_view m.entries ≡ spec.members_of (spec.protocol_fields protocol.now)) }
 {
     let mut members = Map::new(alloc);
-    put_integer(
+    put_member(
         alloc,
         &mut members,
         "minReaderVersion",
-        protocol.min_reader_version,
+        &protocol.min_reader_version,
     )?;
-    put_integer(
+    put_member(
         alloc,
         &mut members,
         "minWriterVersion",
-        protocol.min_writer_version,
+        &protocol.min_writer_version,
     )?;
-    put_optional_texts(
+    put_optional(
         alloc,
         &mut members,
         "readerFeatures",
         &protocol.reader_features,
     )?;
-    put_optional_texts(
+    put_optional(
         alloc,
         &mut members,
         "writerFeatures",
@@ -57,27 +52,13 @@ fn protocol_members(alloc: Global, protocol: &Protocol) -> Result<Members, NoMem
 }
 
 #[tactic(auto, unfolding(crate::specs::Written::members_of))]
-fn format_members(alloc: Global, format: &Format) -> Result<Members, NoMemory>
+pub(crate) fn format_members(alloc: Global, format: &Format) -> Result<Members, NoMemory>
     ensures { IfOk result (λ m. members_view m.entries ≡ spec.members_of (spec.format_fields format.now)) }
 {
     let mut members = Map::new(alloc);
-    put_optional_text_map(alloc, &mut members, "options", &format.options)?;
-    put_text(alloc, &mut members, "provider", &format.provider)?;
+    put_optional(alloc, &mut members, "options", &format.options)?;
+    put_member(alloc, &mut members, "provider", &format.provider)?;
     Ok(members)
-}
-
-#[tactic(auto, unfolding(json_lines::specs::Written::with_member))]
-fn put_format(
-    alloc: Global,
-    members: &mut Members,
-    name: &str,
-    format: &Format,
-) -> Result<(), NoMemory>
-    ensures { OnOk result (members_view members.new.entries
-        ≡ with_member name.now (Some (object (spec.members_of (spec.format_fields format.now)))) (members_view members.old.entries)) }
-{
-    let inner = format_members(alloc, format)?;
-    Ok(put(members, alloc, name, Value::Object(inner))?)
 }
 
 #[tactic(auto, unfolding(crate::specs::Written::members_of))]
@@ -85,19 +66,19 @@ fn metadata_members(alloc: Global, meta: &MetaData) -> Result<Members, NoMemory>
     ensures { IfOk result (λ m. members_view m.entries ≡ spec.members_of (spec.metadata_fields meta.now)) }
 {
     let mut members = Map::new(alloc);
-    put_optional_text_map(alloc, &mut members, "configuration", &meta.configuration)?;
-    put_optional_integer(alloc, &mut members, "createdTime", meta.created_time)?;
-    put_optional_text(alloc, &mut members, "description", &meta.description)?;
-    put_format(alloc, &mut members, "format", &meta.format)?;
-    put_text(alloc, &mut members, "id", &meta.id)?;
-    put_optional_text(alloc, &mut members, "name", &meta.name)?;
-    put_texts(
+    put_optional(alloc, &mut members, "configuration", &meta.configuration)?;
+    put_optional(alloc, &mut members, "createdTime", &meta.created_time)?;
+    put_optional(alloc, &mut members, "description", &meta.description)?;
+    put_member(alloc, &mut members, "format", &meta.format)?;
+    put_member(alloc, &mut members, "id", &meta.id)?;
+    put_optional(alloc, &mut members, "name", &meta.name)?;
+    put_member(
         alloc,
         &mut members,
         "partitionColumns",
         &meta.partition_columns,
     )?;
-    put_text(alloc, &mut members, "schemaString", &meta.schema_string)?;
+    put_member(alloc, &mut members, "schemaString", &meta.schema_string)?;
     Ok(members)
 }
 
@@ -106,23 +87,23 @@ fn add_members(alloc: Global, add: &AddFile) -> Result<Members, NoMemory>
     ensures { IfOk result (λ m. members_view m.entries ≡ spec.members_of (spec.add_fields add.now)) }
 {
     let mut members = Map::new(alloc);
-    put_flag(alloc, &mut members, "dataChange", add.data_change)?;
-    put_integer(
+    put_member(alloc, &mut members, "dataChange", &add.data_change)?;
+    put_member(
         alloc,
         &mut members,
         "modificationTime",
-        add.modification_time,
+        &add.modification_time,
     )?;
-    put_partition_map(
+    put_member(
         alloc,
         &mut members,
         "partitionValues",
         &add.partition_values,
     )?;
-    put_text(alloc, &mut members, "path", &add.path)?;
-    put_integer(alloc, &mut members, "size", add.size)?;
-    put_optional_text(alloc, &mut members, "stats", &add.stats)?;
-    put_optional_text_map(alloc, &mut members, "tags", &add.tags)?;
+    put_member(alloc, &mut members, "path", &add.path)?;
+    put_member(alloc, &mut members, "size", &add.size)?;
+    put_optional(alloc, &mut members, "stats", &add.stats)?;
+    put_optional(alloc, &mut members, "tags", &add.tags)?;
     Ok(members)
 }
 
@@ -131,28 +112,28 @@ fn remove_members(alloc: Global, remove: &RemoveFile) -> Result<Members, NoMemor
     ensures { IfOk result (λ m. members_view m.entries ≡ spec.members_of (spec.remove_fields remove.now)) }
 {
     let mut members = Map::new(alloc);
-    put_flag(alloc, &mut members, "dataChange", remove.data_change)?;
-    put_integer(
+    put_member(alloc, &mut members, "dataChange", &remove.data_change)?;
+    put_member(
         alloc,
         &mut members,
         "deletionTimestamp",
-        remove.deletion_timestamp,
+        &remove.deletion_timestamp,
     )?;
-    put_optional_flag(
+    put_optional(
         alloc,
         &mut members,
         "extendedFileMetadata",
-        remove.extended_file_metadata,
+        &remove.extended_file_metadata,
     )?;
-    put_optional_partition_map(
+    put_optional(
         alloc,
         &mut members,
         "partitionValues",
         &remove.partition_values,
     )?;
-    put_text(alloc, &mut members, "path", &remove.path)?;
-    put_optional_integer(alloc, &mut members, "size", remove.size)?;
-    put_optional_text_map(alloc, &mut members, "tags", &remove.tags)?;
+    put_member(alloc, &mut members, "path", &remove.path)?;
+    put_optional(alloc, &mut members, "size", &remove.size)?;
+    put_optional(alloc, &mut members, "tags", &remove.tags)?;
     Ok(members)
 }
 
@@ -161,8 +142,8 @@ fn txn_members(alloc: Global, txn: &Txn) -> Result<Members, NoMemory>
     ensures { IfOk result (λ m. members_view m.entries ≡ spec.members_of (spec.txn_fields txn.now)) }
 {
     let mut members = Map::new(alloc);
-    put_text(alloc, &mut members, "appId", &txn.app_id)?;
-    put_integer(alloc, &mut members, "version", txn.version)?;
+    put_member(alloc, &mut members, "appId", &txn.app_id)?;
+    put_member(alloc, &mut members, "version", &txn.version)?;
     Ok(members)
 }
 
@@ -171,12 +152,12 @@ fn commit_info_members(alloc: Global, info: &CommitInfo) -> Result<Members, NoMe
     ensures { IfOk result (λ m. members_view m.entries ≡ spec.members_of (spec.commit_info_fields info.now)) }
 {
     let mut members = Map::new(alloc);
-    put_optional_flag(alloc, &mut members, "isBlindAppend", info.is_blind_append)?;
-    put_optional_text(alloc, &mut members, "isolationLevel", &info.isolation_level)?;
-    put_optional_text(alloc, &mut members, "operation", &info.operation)?;
-    put_optional_integer(alloc, &mut members, "readVersion", info.read_version)?;
-    put_optional_integer(alloc, &mut members, "timestamp", info.timestamp)?;
-    put_optional_text(alloc, &mut members, "txnId", &info.txn_id)?;
+    put_optional(alloc, &mut members, "isBlindAppend", &info.is_blind_append)?;
+    put_optional(alloc, &mut members, "isolationLevel", &info.isolation_level)?;
+    put_optional(alloc, &mut members, "operation", &info.operation)?;
+    put_optional(alloc, &mut members, "readVersion", &info.read_version)?;
+    put_optional(alloc, &mut members, "timestamp", &info.timestamp)?;
+    put_optional(alloc, &mut members, "txnId", &info.txn_id)?;
     Ok(members)
 }
 
@@ -185,8 +166,8 @@ fn checkpoint_members(alloc: Global, checkpoint: &CheckpointMetadata) -> Result<
     ensures { IfOk result (λ m. members_view m.entries ≡ spec.members_of (spec.checkpoint_fields checkpoint.now)) }
 {
     let mut members = Map::new(alloc);
-    put_optional_text_map(alloc, &mut members, "tags", &checkpoint.tags)?;
-    put_integer(alloc, &mut members, "version", checkpoint.version)?;
+    put_optional(alloc, &mut members, "tags", &checkpoint.tags)?;
+    put_member(alloc, &mut members, "version", &checkpoint.version)?;
     Ok(members)
 }
 
@@ -195,14 +176,14 @@ fn sidecar_members(alloc: Global, sidecar: &Sidecar) -> Result<Members, NoMemory
     ensures { IfOk result (λ m. members_view m.entries ≡ spec.members_of (spec.sidecar_fields sidecar.now)) }
 {
     let mut members = Map::new(alloc);
-    put_optional_integer(
+    put_optional(
         alloc,
         &mut members,
         "modificationTime",
-        sidecar.modification_time,
+        &sidecar.modification_time,
     )?;
-    put_text(alloc, &mut members, "path", &sidecar.path)?;
-    put_integer(alloc, &mut members, "sizeInBytes", sidecar.size_in_bytes)?;
+    put_member(alloc, &mut members, "path", &sidecar.path)?;
+    put_member(alloc, &mut members, "sizeInBytes", &sidecar.size_in_bytes)?;
     Ok(members)
 }
 

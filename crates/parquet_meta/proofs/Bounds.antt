@@ -9,7 +9,7 @@ use Rattle.thrift_compact.specs.declared.wire.Wire.TheVariants as wires
 use Rattle.thrift_compact.specs.declared.wire.Field.{Field}
 use Rattle.thrift_compact.specs.declared.wire.Field.TheVariants as fields
 use Rattle.thrift_compact.specs.declared.wire.ListHead.{ListHead}
-use Rattle.thrift_compact.specs.Places.{◌>>=◌}
+use Rattle.row_base.specs.Faults.{◌>>=◌}
 use Rattle.thrift_compact.specs.Varints.{Varint, number, ends, long, varint, unzigzag}
 use Rattle.thrift_compact.specs.Values.{varint_here, varint_at, number_at, size_at, behind, binary_at, byte_at, wire_of, known, field_here, fits_16, field_at, list_at}
 use Rattle.thrift_compact.specs.Skipped.{each_end, field_end, fields_end, is_container, plain_end, list_end, pairs_end, map_end, container_end, value_end, skipped_at}

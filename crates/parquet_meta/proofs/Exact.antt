@@ -23,7 +23,8 @@ use Rattle.thrift_compact.proofs.HeaderLaws.{list_found, list_only, field_found,
 use Rattle.thrift_compact.proofs.SkippingLaws.{skipped_found, skipped_taken}
 use Rattle.parquet_meta.specs.declared.fault.FileFault.{FileFault}
 use Rattle.parquet_meta.specs.declared.fault.FileFault.TheVariants as faults
-use Rattle.parquet_meta.specs.Faults.{located, ◌>>=◌}
+use Rattle.row_base.specs.Faults.{◌>>=◌}
+use Rattle.parquet_meta.specs.Faults.{located}
 use Rattle.parquet_meta.specs.Pieces.{Piece}
 use Rattle.parquet_meta.specs.Values.{field_in, number_in, binary_in, head_in, skipped_in, is_wire, typed, text_in, elements_from, list_in, number_of, put, passed}
 use Rattle.parquet_meta.specs.Structs.{field_then, fields_from, fields_of, struct_of}

@@ -10,7 +10,7 @@ use Rattle.thrift_compact.specs.Laws.{Stands}
 use Rattle.thrift_compact.proofs.Standing.{front_of, stands_make}
 use Rattle.parquet_meta.specs.declared.fault.FileFault.TheVariants as faults
 use Rattle.parquet_meta.specs.declared.meta.FileMeta.{FileMeta}
-use Rattle.parquet_meta.specs.Faults.{◌>>=◌}
+use Rattle.row_base.specs.Faults.{◌>>=◌}
 use Rattle.parquet_meta.specs.Pieces.{Piece}
 use Rattle.parquet_meta.specs.Footer.{is_size, has_magic, footer_len, footer_piece, footer_found, file_in, footer_of}
 use Rattle.parquet_meta.specs.Grammar.{SpellsFile, IsFile}

@@ -20,7 +20,7 @@ use Rattle.parquet_meta.specs.declared.known.DictionaryKnown.{DictionaryKnown}
 use Rattle.parquet_meta.specs.declared.known.HeadNumbers.{HeadNumbers}
 use Rattle.parquet_meta.specs.declared.known.DataNumbers.{DataNumbers}
 use Rattle.parquet_meta.specs.declared.known.DictionaryNumbers.{DictionaryNumbers}
-use Rattle.parquet_meta.specs.Faults.{◌>>=◌}
+use Rattle.row_base.specs.Faults.{◌>>=◌}
 use Rattle.parquet_meta.specs.Pieces.{Piece}
 use Rattle.parquet_meta.specs.Values.{number_of, skipped_in}
 use Rattle.parquet_meta.specs.Heads.{no_data, data_step, data_made, data_in, no_dictionary, dictionary_step, dictionary_made, dictionary_in, no_head, head_step, head_made, needed_for, numbers_in, is_in_range, narrow, narrow_optional, data_head, dictionary_head, page_head, page_head_at}

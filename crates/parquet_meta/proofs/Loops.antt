@@ -1,12 +1,13 @@
 -- Steps of the loops over elements and over fields.
-use Rattle.std.proofs.Common.{◌≡◌, ℕ, suc, ◌+◌, ◌-◌, ◌<◌, List, [], ◌∷◌, ◌++◌, refl, sym, ap, ◌∙◌, subst, arith, Result, Ok, Err}
+use Rattle.std.proofs.Common.{◌≡◌, ℕ, suc, ◌+◌, ◌-◌, ◌<◌, Bool, true, false, List, [], ◌∷◌, ◌++◌, refl, sym, ap, ◌∙◌, subst, arith, Result, Ok, Err}
 use Rattle.std.specs.Prelude.{ℤ}
+use Rattle.std.specs.Bool.{MatchBool}
 use Rattle.std.proofs.lemmas.List.{append_assoc}
 use Rattle.thrift_compact.specs.declared.wire.Wire.{Wire}
 use Rattle.thrift_compact.specs.declared.wire.Field.TheVariants as fields
 use Rattle.parquet_meta.specs.declared.fault.FileFault.{FileFault}
-use Rattle.parquet_meta.specs.declared.fault.FileFault.TheVariants as faults
-use Rattle.parquet_meta.specs.Faults.{FaultOf, ◌>>=◌}
+use Rattle.row_base.specs.Faults.{◌>>=◌}
+use Rattle.parquet_meta.specs.Faults.{is_memory, FaultOf}
 use Rattle.parquet_meta.specs.Pieces.{Piece, Reading, Moves, Puts}
 use Rattle.parquet_meta.specs.Values.{elements_from, field_in, skipped_in, passed}
 use Rattle.parquet_meta.specs.Structs.{field_then, fields_from}
@@ -15,18 +16,11 @@ use Rattle.parquet_meta.specs.Structs.{field_then, fields_from}
 
 -- where each fault of one reading is one of another, a fault that a call answered is too
 pub fault_carried : {A B : Type 0} (f : FileFault) (r : Result A FileFault) (s : Result B FileFault) → ((g : FileFault) → r ≡ Err g → s ≡ Err g) → FaultOf f r → FaultOf f s
-fault_carried faults.Short r s h e = h faults.Short e
-fault_carried faults.Magic r s h e = h faults.Magic e
-fault_carried faults.Footer r s h e = h faults.Footer e
-fault_carried (faults.Thrift at) r s h e = h (faults.Thrift at) e
-fault_carried (faults.Shape column) r s h e = h (faults.Shape column) e
-fault_carried (faults.Page at) r s h e = h (faults.Page at) e
-fault_carried (faults.Codec codec) r s h e = h (faults.Codec codec) e
-fault_carried (faults.Encoding encoding) r s h e = h (faults.Encoding encoding) e
-fault_carried (faults.PageKind kind) r s h e = h (faults.PageKind kind) e
-fault_carried (faults.Physical column) r s h e = h (faults.Physical column) e
-fault_carried faults.Nested r s h e = h faults.Nested e
-fault_carried faults.NoMemory r s h e = tt
+fault_carried f r s h e = inside (is_memory f) e
+  where
+    inside : (b : Bool) → MatchBool b (Unit {0}) (r ≡ Err f) → MatchBool b (Unit {0}) (s ≡ Err f)
+    inside true e = tt
+    inside false e = h f e
 
 -- ---- elements
 

@@ -78,6 +78,7 @@ pub data SpellsStruct {D : Type 0} (field : ℤ → Wire → List ℕ → D → 
 
 -- ---- ColumnMetaData
 
+-- a field of ColumnMetaData that is not a list
 abbrev pub ColumnNumberField : ℤ → Wire → List ℕ → ColumnKnown → ColumnKnown → Type 0
 ColumnNumberField id wire text before after =
     AtId id 1 (Holds wires.I32 SpellsNumber (λ n. record before { physical_type = Some n }) wire text after)
@@ -89,12 +90,14 @@ ColumnNumberField id wire text before after =
     (AtId id 11 (Holds wires.I64 SpellsNumber (λ n. record before { dictionary_page_offset = Some n }) wire text after)
     (Unused wire text before after)))))))
 
+-- any field of ColumnMetaData
 abbrev pub ColumnField : ℤ → Wire → List ℕ → ColumnKnown → ColumnKnown → Type 0
 ColumnField id wire text before after =
     AtId id 2 (Holds wires.List (SpellsElements wires.I32 SpellsNumber) (λ ns. record before { encodings = Some ns }) wire text after)
     (AtId id 3 (Holds wires.List (SpellsElements wires.Binary SpellsText) (λ ts. record before { path_in_schema = Some ts }) wire text after)
     (ColumnNumberField id wire text before after))
 
+-- what is known once all fields of this metadata have come
 abbrev pub column_known : ColumnMetaData → ColumnKnown
 column_known column = record {
   physical_type = Some column.physical_type;
@@ -108,11 +111,13 @@ column_known column = record {
   dictionary_page_offset = column.dictionary_page_offset;
 }
 
+-- a text of ColumnMetaData
 abbrev pub SpellsColumn : List ℕ → ColumnMetaData → Type 0
 SpellsColumn text column = SpellsStruct ColumnField (pos 0) no_column text (column_known column)
 
 -- ---- ColumnChunk
 
+-- a field of ColumnChunk
 abbrev pub ChunkField : ℤ → Wire → List ℕ → ChunkKnown → ChunkKnown → Type 0
 ChunkField id wire text before after =
     AtId id 1 (Holds wires.Binary SpellsText (λ t. record before { file_path = Some t }) wire text after)
@@ -120,14 +125,17 @@ ChunkField id wire text before after =
     (AtId id 3 (Holds wires.Struct SpellsColumn (λ m. record before { meta_data = Some m }) wire text after)
     (Unused wire text before after)))
 
+-- what is known once all fields of this chunk have come
 abbrev pub chunk_known : ColumnChunk → ChunkKnown
 chunk_known chunk = record { file_path = chunk.file_path; file_offset = chunk.file_offset; meta_data = Some chunk.meta_data }
 
+-- a text of ColumnChunk
 abbrev pub SpellsChunk : List ℕ → ColumnChunk → Type 0
 SpellsChunk text chunk = SpellsStruct ChunkField (pos 0) no_chunk text (chunk_known chunk)
 
 -- ---- RowGroup
 
+-- a field of RowGroup
 abbrev pub GroupField : ℤ → Wire → List ℕ → GroupKnown → GroupKnown → Type 0
 GroupField id wire text before after =
     AtId id 1 (Holds wires.List (SpellsElements wires.Struct SpellsChunk) (λ cs. record before { columns = Some cs }) wire text after)
@@ -135,14 +143,17 @@ GroupField id wire text before after =
     (AtId id 3 (Holds wires.I64 SpellsNumber (λ n. record before { num_rows = Some n }) wire text after)
     (Unused wire text before after)))
 
+-- what is known once all fields of this row group have come
 abbrev pub group_known : RowGroup → GroupKnown
 group_known group = record { columns = Some group.columns; total_byte_size = group.total_byte_size; num_rows = Some group.num_rows }
 
+-- a text of RowGroup
 abbrev pub SpellsGroup : List ℕ → RowGroup → Type 0
 SpellsGroup text group = SpellsStruct GroupField (pos 0) no_group text (group_known group)
 
 -- ---- SchemaElement
 
+-- a field of SchemaElement
 abbrev pub ElementField : ℤ → Wire → List ℕ → ElementKnown → ElementKnown → Type 0
 ElementField id wire text before after =
     AtId id 1 (Holds wires.I32 SpellsNumber (λ n. record before { physical_type = Some n }) wire text after)
@@ -152,6 +163,7 @@ ElementField id wire text before after =
     (AtId id 6 (Holds wires.I32 SpellsNumber (λ n. record before { converted_type = Some n }) wire text after)
     (Unused wire text before after)))))
 
+-- what is known once all fields of this element have come
 abbrev pub element_known : SchemaElement → ElementKnown
 element_known element = record {
   physical_type = element.physical_type;
@@ -161,11 +173,13 @@ element_known element = record {
   converted_type = element.converted_type;
 }
 
+-- a text of SchemaElement
 abbrev pub SpellsElement : List ℕ → SchemaElement → Type 0
 SpellsElement text element = SpellsStruct ElementField (pos 0) no_element text (element_known element)
 
 -- ---- FileMetaData
 
+-- a field of FileMetaData
 abbrev pub FileField : ℤ → Wire → List ℕ → FileKnown → FileKnown → Type 0
 FileField id wire text before after =
     AtId id 1 (Holds wires.I32 SpellsNumber (λ n. record before { version = Some n }) wire text after)
@@ -174,9 +188,11 @@ FileField id wire text before after =
     (AtId id 4 (Holds wires.List (SpellsElements wires.Struct SpellsGroup) (λ gs. record before { row_groups = Some gs }) wire text after)
     (Unused wire text before after))))
 
+-- what is known once all fields of this metadata have come
 abbrev pub file_known : FileMeta → FileKnown
 file_known meta = record { version = meta.version; schema = Some meta.schema; num_rows = Some meta.num_rows; row_groups = Some meta.row_groups }
 
+-- a text of FileMetaData
 abbrev pub SpellsFile : List ℕ → FileMeta → Type 0
 SpellsFile text meta = SpellsStruct FileField (pos 0) no_file text (file_known meta)
 
@@ -195,6 +211,7 @@ pub record IsFile (file : List ℕ) (meta : FileMeta) : Type 0 where
 
 -- ---- DataPageHeader and DictionaryPageHeader
 
+-- a field of DataPageHeader
 abbrev pub DataField : ℤ → Wire → List ℕ → DataKnown → DataKnown → Type 0
 DataField id wire text before after =
     AtId id 1 (Holds wires.I32 SpellsNumber (λ n. record before { num_values = Some n }) wire text after)
@@ -203,6 +220,7 @@ DataField id wire text before after =
     (AtId id 4 (Holds wires.I32 SpellsNumber (λ n. record before { repetition_level_encoding = Some n }) wire text after)
     (Unused wire text before after))))
 
+-- what is known once all fields of this header have come
 abbrev pub data_known : DataNumbers → DataKnown
 data_known numbers = record {
   num_values = Some numbers.num_values;
@@ -211,18 +229,22 @@ data_known numbers = record {
   repetition_level_encoding = Some numbers.repetition_level_encoding;
 }
 
+-- a text of DataPageHeader
 abbrev pub SpellsData : List ℕ → DataNumbers → Type 0
 SpellsData text numbers = SpellsStruct DataField (pos 0) no_data text (data_known numbers)
 
+-- a field of DictionaryPageHeader
 abbrev pub DictionaryField : ℤ → Wire → List ℕ → DictionaryKnown → DictionaryKnown → Type 0
 DictionaryField id wire text before after =
     AtId id 1 (Holds wires.I32 SpellsNumber (λ n. record before { num_values = Some n }) wire text after)
     (AtId id 2 (Holds wires.I32 SpellsNumber (λ n. record before { encoding = Some n }) wire text after)
     (Unused wire text before after))
 
+-- what is known once all fields of this header have come
 abbrev pub dictionary_known : DictionaryNumbers → DictionaryKnown
 dictionary_known numbers = record { num_values = Some numbers.num_values; encoding = Some numbers.encoding }
 
+-- a text of DictionaryPageHeader
 abbrev pub SpellsDictionary : List ℕ → DictionaryNumbers → Type 0
 SpellsDictionary text numbers = SpellsStruct DictionaryField (pos 0) no_dictionary text (dictionary_known numbers)
 
@@ -232,6 +254,7 @@ SpellsDictionary text numbers = SpellsStruct DictionaryField (pos 0) no_dictiona
 abbrev pub SpellsV2 : List ℕ → Unit {0} → Type 0
 SpellsV2 text nothing = SpellsValue 16 false wires.Struct text
 
+-- a field of PageHeader
 abbrev pub HeadField : ℤ → Wire → List ℕ → HeadKnown → HeadKnown → Type 0
 HeadField id wire text before after =
     AtId id 1 (Holds wires.I32 SpellsNumber (λ n. record before { page_type = Some n }) wire text after)
@@ -242,6 +265,7 @@ HeadField id wire text before after =
     (AtId id 8 (Holds wires.Struct SpellsV2 (λ nothing. record before { data_page_v2 = true }) wire text after)
     (Unused wire text before after))))))
 
+-- what is known once all fields of this head have come
 abbrev pub head_known : HeadNumbers → HeadKnown
 head_known numbers = record {
   page_type = Some numbers.page_type;
@@ -256,6 +280,7 @@ head_known numbers = record {
 abbrev pub HasHeader : {A B : Type 0} → ℤ → Option A → Option B → Type 0
 HasHeader page_type data_page dictionary_page = (page_type ≡ pos 0 → IsSome data_page) × (page_type ≡ pos 2 → IsSome dictionary_page)
 
+-- the numbers of the header of a data page
 abbrev pub data_numbers : DataPageHead → DataNumbers
 data_numbers head = record {
   num_values = head.num_values;
@@ -264,17 +289,21 @@ data_numbers head = record {
   repetition_level_encoding = head.repetition_level_encoding;
 }
 
+-- the numbers of the header of a dictionary page
 abbrev pub dictionary_numbers : DictionaryPageHead → DictionaryNumbers
 dictionary_numbers head = record { num_values = head.num_values; encoding = head.encoding }
 
+-- the numbers of the header of a data page, where there is one
 abbrev pub optional_data : Option DataPageHead → Option DataNumbers
 optional_data None = None
 optional_data (Some head) = Some (data_numbers head)
 
+-- the numbers of the header of a dictionary page, where there is one
 abbrev pub optional_dictionary : Option DictionaryPageHead → Option DictionaryNumbers
 optional_dictionary None = None
 optional_dictionary (Some head) = Some (dictionary_numbers head)
 
+-- the numbers of the head of a page
 abbrev pub head_numbers : PageHead → HeadNumbers
 head_numbers head = record {
   page_type = head.page_type;
@@ -290,15 +319,18 @@ abbrev pub SizeInRange : Option ℤ → Type 0
 SizeInRange None = Unit {0}
 SizeInRange (Some size) = is_in_range size ≡ true
 
+-- all numbers of the header of a data page are in range
 abbrev pub DataInRange : Option DataPageHead → Type 0
 DataInRange None = Unit {0}
 DataInRange (Some head) =
     (is_in_range head.num_values ≡ true) × (is_in_range head.encoding ≡ true) × (is_in_range head.definition_level_encoding ≡ true) × (is_in_range head.repetition_level_encoding ≡ true)
 
+-- all numbers of the header of a dictionary page are in range
 abbrev pub DictionaryInRange : Option DictionaryPageHead → Type 0
 DictionaryInRange None = Unit {0}
 DictionaryInRange (Some head) = (is_in_range head.num_values ≡ true) × (is_in_range head.encoding ≡ true)
 
+-- all numbers of the head of a page are from 0 to 2^31 - 1
 pub record IsInRange (head : PageHead) : Type 0 where
   pub page_type : (is_in_range head.page_type ≡ true)
   pub uncompressed : SizeInRange head.uncompressed_page_size

@@ -26,9 +26,11 @@ HeadsReadExactly = (file : List ℕ) (at : ℕ) (page : PageAt)
 
 -- ---- metadata that can be written: its numbers have 64 bits, its texts are UTF-8, and no list or text has 2^32 elements
 
+-- a number of 64 bits
 abbrev pub IsNarrow : ℤ → Type 0
 IsNarrow number = zigzag number < 2 ^ 64
 
+-- a value fits where there is one
 abbrev pub IfThere : {A : Type 0} → (A → Type 0) → Option A → Type 0
 IfThere fits None = Unit {0}
 IfThere fits (Some value) = fits value
@@ -38,14 +40,17 @@ unfoldable pub AllFit : {A : Type 0} → (A → Type 0) → List A → Type 0
 AllFit fits [] = Unit {0}
 AllFit fits (first ∷ others) = fits first × AllFit fits others
 
+-- a list of fewer than 2^32 elements, each of which fits
 pub record IsShort {A : Type 0} (fits : A → Type 0) (elements : List A) : Type 0 where
   pub few : length elements < 2 ^ 32
   pub each : AllFit fits elements
 
+-- a text in UTF-8 of fewer than 2^32 bytes
 pub record IsText (text : List ℕ) : Type 0 where
   pub short : length text < 2 ^ 32
   pub utf8 : IsUtf8 text
 
+-- the metadata of a chunk can be written
 pub record FitsColumn (column : ColumnMetaData) : Type 0 where
   pub physical_type : IsNarrow column.physical_type
   pub encodings : IfThere (IsShort IsNarrow) column.encodings
@@ -57,16 +62,19 @@ pub record FitsColumn (column : ColumnMetaData) : Type 0 where
   pub data_page_offset : IsNarrow column.data_page_offset
   pub dictionary_page_offset : IfThere IsNarrow column.dictionary_page_offset
 
+-- a chunk can be written
 pub record FitsChunk (chunk : ColumnChunk) : Type 0 where
   pub file_path : IfThere IsText chunk.file_path
   pub file_offset : IfThere IsNarrow chunk.file_offset
   pub meta_data : FitsColumn chunk.meta_data
 
+-- a row group can be written
 pub record FitsGroup (group : RowGroup) : Type 0 where
   pub columns : IsShort FitsChunk group.columns
   pub total_byte_size : IfThere IsNarrow group.total_byte_size
   pub num_rows : IsNarrow group.num_rows
 
+-- an element of the schema can be written
 pub record FitsElement (element : SchemaElement) : Type 0 where
   pub physical_type : IfThere IsNarrow element.physical_type
   pub repetition_type : IfThere IsNarrow element.repetition_type
@@ -74,6 +82,7 @@ pub record FitsElement (element : SchemaElement) : Type 0 where
   pub num_children : IfThere IsNarrow element.num_children
   pub converted_type : IfThere IsNarrow element.converted_type
 
+-- the metadata of a file can be written
 pub record FitsFile (meta : FileMeta) : Type 0 where
   pub version : IfThere IsNarrow meta.version
   pub schema : IsShort FitsElement meta.schema

@@ -5,7 +5,7 @@ use Rattle.thrift_compact.specs.declared.wire.Field.{Field}
 use Rattle.thrift_compact.specs.declared.wire.Field.TheVariants as fields
 use Rattle.parquet_meta.specs.declared.fault.FileFault.{FileFault}
 use Rattle.parquet_meta.specs.declared.fault.FileFault.TheVariants as faults
-use Rattle.parquet_meta.specs.Faults.{◌>>=◌}
+use Rattle.row_base.specs.Faults.{◌>>=◌}
 use Rattle.parquet_meta.specs.Pieces.{Piece}
 use Rattle.parquet_meta.specs.Values.{field_in}
 

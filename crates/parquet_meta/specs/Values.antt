@@ -10,29 +10,36 @@ use Rattle.thrift_compact.specs.Skipped.{skipped_at}
 use Rattle.thrift_compact.specs.Writing.{code_of}
 use Rattle.parquet_meta.specs.declared.fault.FileFault.{FileFault}
 use Rattle.parquet_meta.specs.declared.fault.FileFault.TheVariants as faults
-use Rattle.parquet_meta.specs.Faults.{located, ◌>>=◌}
+use Rattle.row_base.specs.Faults.{◌>>=◌}
+use Rattle.parquet_meta.specs.Faults.{located}
 use Rattle.parquet_meta.specs.Pieces.{Piece}
 
 -- ---- single values
 
+-- the header of a field behind one of the id `last`
 unfoldable pub field_in : Piece → ℤ → ℕ → Result (Field × ℕ) FileFault
 field_in piece last at = located piece.start (field_at piece.bytes last at)
 
+-- a number
 unfoldable pub number_in : Piece → ℕ → Result (ℤ × ℕ) FileFault
 number_in piece at = located piece.start (number_at piece.bytes at)
 
+-- bytes behind their length
 unfoldable pub binary_in : Piece → ℕ → Result (List ℕ × ℕ) FileFault
 binary_in piece at = located piece.start (binary_at piece.bytes at)
 
+-- the header of a list
 unfoldable pub head_in : Piece → ℕ → Result (ListHead × ℕ) FileFault
 head_in piece at = located piece.start (list_at piece.bytes at)
 
+-- a value of a wire type, which is passed over
 unfoldable pub skipped_in : Piece → Wire → ℕ → Result (Unit {0} × ℕ) FileFault
 skipped_in piece wire at = located piece.start (skipped_at piece.bytes wire at)
 
 -- ---- used fields; `place` is the place in the file of the field's first byte, `found` its wire type, and `at` the place
 -- of its value
 
+-- the wire type that was found is the one that is wanted
 abbrev pub is_wire : Wire → Wire → Bool
 is_wire found wanted = code_of found == code_of wanted
 

@@ -48,6 +48,7 @@ texts_of text (first ∷ others) = text first ++ texts_of text others
 abbrev pub list_text : {A : Type 0} → Wire → (A → List ℕ) → List A → List ℕ
 list_text wire text elements = list_bytes wire (length elements) ++ texts_of text elements
 
+-- ColumnMetaData
 unfoldable pub column_text : ColumnMetaData → List ℕ
 column_text column = fields_text (pos 0) (
     always (pos 1) wires.I32 (number_bytes column.physical_type)
@@ -61,6 +62,7 @@ column_text column = fields_text (pos 0) (
     ∷ if_some (pos 11) wires.I64 number_bytes column.dictionary_page_offset
     ∷ [])
 
+-- ColumnChunk
 unfoldable pub chunk_text : ColumnChunk → List ℕ
 chunk_text chunk = fields_text (pos 0) (
     if_some (pos 1) wires.Binary binary_bytes chunk.file_path
@@ -68,6 +70,7 @@ chunk_text chunk = fields_text (pos 0) (
     ∷ always (pos 3) wires.Struct (column_text chunk.meta_data)
     ∷ [])
 
+-- RowGroup
 unfoldable pub group_text : RowGroup → List ℕ
 group_text group = fields_text (pos 0) (
     always (pos 1) wires.List (list_text wires.Struct chunk_text group.columns)
@@ -75,6 +78,7 @@ group_text group = fields_text (pos 0) (
     ∷ always (pos 3) wires.I64 (number_bytes group.num_rows)
     ∷ [])
 
+-- SchemaElement
 unfoldable pub element_text : SchemaElement → List ℕ
 element_text element = fields_text (pos 0) (
     if_some (pos 1) wires.I32 number_bytes element.physical_type
@@ -93,6 +97,7 @@ footer_text meta = fields_text (pos 0) (
     ∷ always (pos 4) wires.List (list_text wires.Struct group_text meta.row_groups)
     ∷ [])
 
+-- DataPageHeader
 unfoldable pub data_text : DataPageHead → List ℕ
 data_text head = fields_text (pos 0) (
     always (pos 1) wires.I32 (number_bytes head.num_values)
@@ -101,6 +106,7 @@ data_text head = fields_text (pos 0) (
     ∷ always (pos 4) wires.I32 (number_bytes head.repetition_level_encoding)
     ∷ [])
 
+-- DictionaryPageHeader
 unfoldable pub dictionary_text : DictionaryPageHead → List ℕ
 dictionary_text head = fields_text (pos 0) (
     always (pos 1) wires.I32 (number_bytes head.num_values)

@@ -7,11 +7,10 @@ ghost use Rattle.parquet_meta.specs.Values.{typed, elements_from, list_in, numbe
 ghost use Rattle.parquet_meta.specs.Structs.{fields_of, needed};
 
 use crate::fault::FileFault;
-use crate::items::Items;
 use crate::reader::{Header, Reader};
-use row_base::Text;
+use row_base::{Items, NoMemory, Text};
 use std::alloc::Global;
-use thrift_compact::{Appender, Field, NoMemory, Wire};
+use thrift_compact::{Appender, Field, Wire};
 
 /// What is known of a struct while its fields are read. Memory is taken from an `M`: `Global`, or `()` where none is.
 pub(crate) trait Fields<M>: Drop {
@@ -122,7 +121,7 @@ pub(crate) fn read_list<E: Element>(
         return Err(FileFault::Thrift { at: header.place });
     }
     let elements = read_elements(alloc, reader, header.place, head.count)?;
-    Ok(Items::make(elements))
+    Ok(Items::from_vec(elements))
 }
 
 /// The value of a field that is a number.

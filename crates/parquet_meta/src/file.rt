@@ -97,10 +97,8 @@ pub fn write_footer(alloc: Global, meta: &FileMeta) -> Result<Vec<u8>, NoMemory>
     ensures { IfOk result (λ v. v.items ≡ footer_text meta.now) }
 {
     let mut out = Appender::new(alloc);
-    match write_file(&mut out, meta) {
-        Ok(()) => Ok(out.into_bytes()),
-        Err(_) => Err(NoMemory),
-    }
+    write_file(&mut out, meta)?;
+    Ok(out.into_bytes())
 }
 
 /// The text of a page's head.
@@ -108,8 +106,6 @@ pub fn write_page_head(alloc: Global, head: &PageHead) -> Result<Vec<u8>, NoMemo
     ensures { IfOk result (λ v. v.items ≡ head_text head.now) }
 {
     let mut out = Appender::new(alloc);
-    match write_head(&mut out, head) {
-        Ok(()) => Ok(out.into_bytes()),
-        Err(_) => Err(NoMemory),
-    }
+    write_head(&mut out, head)?;
+    Ok(out.into_bytes())
 }

@@ -13,9 +13,9 @@ use crate::known::{ChunkKnown, ColumnKnown, ElementKnown, FileKnown, GroupKnown}
 use crate::meta::{ColumnChunk, ColumnMetaData, FileMeta, RowGroup, SchemaElement};
 use crate::reader::{Header, Reader};
 use crate::written::{write_chunk, write_element, write_group};
-use row_base::{Text, Texts};
+use row_base::{NoMemory, Text};
 use std::alloc::Global;
-use thrift_compact::{Appender, NoMemory, Wire};
+use thrift_compact::{Appender, Wire};
 
 impl Element for i64 {
     ghost kind = { wires.I32 };
@@ -57,14 +57,6 @@ impl Element for Text {
     }
 }
 
-/// The value of a field that is a list of texts.
-fn read_texts(alloc: Global, reader: &mut Reader<'_>, header: Header) -> Result<Texts, FileFault>
-    ensures { Moves reader.old reader.new result (typed wires.List header.wire header.place (list_in wires.Binary text_in reader.old.piece header.place reader.old.at)) }
-{
-    let texts = read_list::<Text>(alloc, reader, header)?;
-    Ok(Texts::make(texts.into_vec()))
-}
-
 impl Fields<Global> for ColumnKnown {
     ghost step = { spec.column_step };
 
@@ -80,7 +72,7 @@ impl Fields<Global> for ColumnKnown {
                 Ok(())
             }
             3 => {
-                self.path_in_schema = Some(read_texts(alloc, reader, header)?);
+                self.path_in_schema = Some(read_list(alloc, reader, header)?);
                 Ok(())
             }
             _ => self.put_number(reader, header),

@@ -1,8 +1,7 @@
 //! What is known of a struct while its fields are read: the value of each used field that has come, and of one that came
 //! twice the last.
-use crate::items::Items;
 use crate::meta::{ColumnChunk, ColumnMetaData, RowGroup, SchemaElement};
-use row_base::{Text, Texts};
+use row_base::{Items, Text};
 
 /// What is known of the metadata of a file.
 #[derive(Drop)]
@@ -44,7 +43,7 @@ pub(crate) struct ChunkKnown {
 pub(crate) struct ColumnKnown {
     pub(crate) physical_type: Option<i64>,
     pub(crate) encodings: Option<Items<i64>>,
-    pub(crate) path_in_schema: Option<Texts>,
+    pub(crate) path_in_schema: Option<Items<Text>>,
     pub(crate) codec: Option<i64>,
     pub(crate) num_values: Option<i64>,
     pub(crate) total_uncompressed_size: Option<i64>,

@@ -7,7 +7,6 @@ mod fields;
 mod file;
 mod footer;
 mod head;
-mod items;
 mod known;
 mod laws;
 mod meta;
@@ -18,9 +17,5 @@ mod written;
 pub use fault::FileFault;
 pub use file::{read_footer, read_page_head, write_footer, write_page_head};
 pub use head::{DataPageHead, DictionaryPageHead, PageAt, PageHead};
-pub use items::Items;
 pub use laws::{reading_is_exact, written_is_read};
 pub use meta::{ColumnChunk, ColumnMetaData, FileMeta, RowGroup, SchemaElement};
-
-#[cfg(test)]
-mod tests;

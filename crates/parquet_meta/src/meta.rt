@@ -1,7 +1,6 @@
 //! What the footer of a file says (Parquet format, "Metadata"). Fields that aren't used are not kept. An absent field is
 //! `None`; numbers are as they stand, in range or not.
-use crate::items::Items;
-use row_base::{Text, Texts};
+use row_base::{Items, Text};
 
 /// The metadata of a file (`FileMetaData`).
 #[derive(Debug, Drop)]
@@ -61,7 +60,7 @@ pub struct ColumnMetaData {
     /// The numbers of the encodings of its pages and levels.
     pub encodings: Option<Items<i64>>,
     /// The names of the column and of the groups that it is in, from the root down.
-    pub path_in_schema: Texts,
+    pub path_in_schema: Items<Text>,
     /// The number of its codec.
     pub codec: i64,
     /// How many values it has, nulls too.

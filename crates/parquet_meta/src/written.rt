@@ -6,10 +6,9 @@ ghost use Rattle.parquet_meta.specs.Written as spec;
 
 use crate::fields::Element;
 use crate::head::{DataPageHead, DictionaryPageHead, PageHead};
-use crate::items::Items;
 use crate::meta::{ColumnChunk, ColumnMetaData, FileMeta, RowGroup, SchemaElement};
-use row_base::Text;
-use thrift_compact::{Appender, NoMemory, Wire};
+use row_base::{Items, NoMemory, Text};
+use thrift_compact::{Appender, Wire};
 
 /// Appends a field that is a number, behind one of the id `last`, and gives the id of the field that is the last one now.
 fn put_number(

@@ -3,7 +3,7 @@ use Rattle.std.proofs.Common.{◌≡◌, ℕ, ◌+◌, ◌==◌, Bool, true, fal
 use Rattle.std.specs.List.{list_any, All}
 use Rattle.std.specs.Str.{bytes_eq}
 use Rattle.std.proofs.lemmas.List.Elements.{All-cons, All-nil}
-use Rattle.json_lines.specs.declared.map.PartitionValue.{PartitionValue}
+use Rattle.log_actions.specs.declared.partition_map.PartitionValue.{PartitionValue}
 use Rattle.row_base.specs.declared.row.Datum.{Datum}
 use Rattle.row_base.specs.declared.row.Datum.TheVariants as datum
 use Rattle.row_base.specs.declared.row.Kind.{Kind}
@@ -13,9 +13,9 @@ use Rattle.row_base.specs.Dates.{date_in}
 use Rattle.row_base.specs.Schema.{TableSchema}
 use Rattle.row_base.proofs.DateRange.{date_in_range}
 use Rattle.schema_text.specs.declared.fault.SchemaTextFault.{SchemaTextFault}
-use Rattle.schema_text.specs.Faults.{◌>>=◌}
-use Rattle.schema_text.specs.Numbers.{long_in, if_i32}
-use Rattle.schema_text.specs.Partition.{datum_of, datum_by, text_of, or_value, datum_in, cell, cells, partition_row}
+use Rattle.row_base.specs.Faults.{◌>>=◌}
+use Rattle.row_base.specs.Numbers.{long_in}
+use Rattle.schema_text.specs.Partition.{if_i32, datum_of, datum_by, text_of, or_value, datum_in, cell, cells, partition_row}
 use Rattle.schema_text.specs.PartitionWritten.{HasText}
 
 of_date : (o : Option ℤ) (text : List ℕ) (d : Datum) → date_in text ≡ o → option_map datum.Date o ≡ Some d → HasText d

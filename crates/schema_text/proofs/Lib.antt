@@ -1,5 +1,4 @@
-pub mod Decimals
 pub mod ValuesBack
-pub mod TooMany
-pub mod SchemaBack
 pub mod DatesRead
+pub mod FirstFaults
+pub mod SchemaBack

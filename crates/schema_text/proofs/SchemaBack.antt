@@ -1,5 +1,7 @@
 -- The text that is written reads as its schema.
-use Rattle.std.proofs.Common.{◌≡◌, ◌≤◌, ℕ, false, ◌||◌, List, [], ◌∷◌, map, Some, option_and_then, Result, Ok, refl, sym, ap, ◌∙◌, subst, arith}
+use Rattle.std.proofs.Common.{◌≡◌, ◌≤◌, ◌<◌, ℕ, ◌+◌, nat_lt, Bool, true, false, cond, ◌||◌, List, [], ◌∷◌, ◌++◌, length, Option, Some, None, option_and_then, Ok, refl, sym, ap, ◌∙◌, arith, append-nil, append_assoc, length-append}
+use Rattle.std.specs.Option.{option_map, option_or}
+use Rattle.std.proofs.lemmas.Bool.Decides.{nat_tests}
 use Rattle.serde_json.specs.Data.{depth, items_depth}
 use Rattle.serde_json.specs.Written.{has_float, items_have_float}
 use Rattle.json_lines.specs.Kinds.{as_itself, present, needed}
@@ -7,13 +9,13 @@ use Rattle.json_lines.specs.Lines.{value_of_line, object_of_line}
 use Rattle.row_base.specs.declared.row.Kind.{Kind}
 use Rattle.row_base.specs.declared.row.Kind.TheVariants as kind
 use Rattle.row_base.specs.declared.schema.Column.{Column}
-use Rattle.row_base.specs.Schema.{TableSchema, IsSchema, schema_fault}
+use Rattle.row_base.specs.declared.schema.SchemaFault.TheVariants as schema
+use Rattle.row_base.specs.Schema.{TableSchema, IsSchema, first_after, is_named, repeats_name, is_wrong_place, is_column_count, schema_fault}
 use Rattle.row_base.proofs.SchemaLemmas.{schema_complete}
 use Rattle.schema_text.specs.declared.field.Field.{Field}
-use Rattle.schema_text.specs.declared.fault.SchemaTextFault.{SchemaTextFault}
-use Rattle.schema_text.specs.Faults.{◌>>=◌}
-use Rattle.schema_text.specs.Fields.{kind_named, field_of, fields_in, as_fields, struct_fields, fields_of_text}
-use Rattle.schema_text.specs.Schema.{column_of, or_shape, places_in, shape_of, check_types, check_invariants, schema_by, schema_of}
+use Rattle.row_base.specs.Faults.{◌>>=◌}
+use Rattle.schema_text.specs.Fields.{kind_named, field_of, is_struct, struct_fields, fields_of_text}
+use Rattle.schema_text.specs.Schema.{or_shape, shape_of, column_of, next_column, columns_from, places_in, schema_at, schema_by, schema_of}
 use Rattle.schema_text.specs.SchemaWritten.{kind_text, field_data, fields_data, schema_data}
 
 no_floats : (cs : List Column) → items_have_float (fields_data cs) ≡ false
@@ -48,47 +50,49 @@ field_back : (c : Column) → field_of (field_data c) ≡ Some (field_from c)
 unfolding field_of needed present
 field_back c = ap (λ k. Some (record { name = c.name; kind = k; nullable = c.nullable; has_invariant = false })) (kind_back c.kind)
 
-fields_back : (cs : List Column) → fields_in (fields_data cs) ≡ Some (map field_from cs)
-fields_back [] = refl
-fields_back (c ∷ cs) = rw (field_back c, fields_back cs) refl
+struct_back : (cs : List Column) → struct_fields (schema_data cs) ≡ Some (fields_data cs)
+unfolding struct_fields is_struct schema_data needed present
+struct_back cs = refl
 
-struct_back : (cs : List Column) → struct_fields (schema_data cs) ≡ Some (map field_from cs)
-unfolding struct_fields schema_data as_fields needed present
-struct_back cs = fields_back cs
-
-text_back : (text : List ℕ) (cs : List Column) → value_of_line text ≡ Some (schema_data cs) → fields_of_text text ≡ Some (map field_from cs)
+text_back : (text : List ℕ) (cs : List Column) → value_of_line text ≡ Some (schema_data cs) → fields_of_text text ≡ Some (fields_data cs)
 unfolding fields_of_text object_of_line schema_data
 text_back text cs e = ap (λ o. option_and_then struct_fields (option_and_then as_itself o)) e ∙ struct_back cs
 
-columns_back : (cs : List Column) → map column_of (map field_from cs) ≡ cs
-columns_back [] = refl
-columns_back (c ∷ cs) = ap (λ ds. c ∷ ds) (columns_back cs)
+few_enough : (n : ℕ) → n < 64 → nat_lt n 64 ≡ true
+few_enough n h = grind (arith, nat_tests)
 
-types_back : {A : Type 0} (cs : List Column) (x : A) → check_types (map field_from cs) x ≡ Ok x
-types_back [] x = refl
-types_back (c ∷ cs) x = types_back cs x
+column_back : (before : List Column) (c : Column) → is_named before c.name ≡ false → length before < 64 → next_column before (field_data c) ≡ Ok c
+unfolding next_column column_of
+column_back before c own few = rw (field_back c, few_enough (length before) few, own) refl
 
-invariants_back : {A : Type 0} (cs : List Column) (x : A) → check_invariants (map field_from cs) x ≡ Ok x
-invariants_back [] x = refl
-invariants_back (c ∷ cs) x = invariants_back cs x
+none_here : {A : Type 0} (b : Bool) (x : A) (o : Option A) → cond b (Some x) o ≡ None → (b ≡ false) × (o ≡ None)
+none_here true x o e = cc
+none_here false x o e = (refl, e)
 
-abbrev checked : List Field → List Column → List ℕ → Result TableSchema SchemaTextFault
-checked fields cols places =
-    shape_of (schema_fault cols places) (record { columns = cols; partition = places }) >>= λ x. check_types fields x >>= check_invariants fields
+columns_back : (before cs : List Column) → first_after repeats_name before cs ≡ None → length before + length cs ≤ 64 → columns_from before (fields_data cs) ≡ Ok (before ++ cs)
+columns_back before [] e h = ap Ok (sym (append-nil before))
+columns_back before (c ∷ cs) e h =
+    let parts = none_here (repeats_name before c) (length before, c) (first_after repeats_name (before ++ c ∷ []) cs) e in
+    let more : length (before ++ c ∷ []) ≡ length before + 1 = length-append before (c ∷ []) in
+    ap (λ r. r >>= λ x. columns_from (before ++ x ∷ []) (fields_data cs)) (column_back before c parts.0 (omega arith))
+    ∙ columns_back (before ++ c ∷ []) cs parts.1 (omega arith)
+    ∙ ap Ok (append_assoc before (c ∷ []) cs)
 
--- reading on from the fields, with their columns
-abbrev made : List Field → List (List ℕ) → List Column → Result TableSchema SchemaTextFault
-made fields names cols = or_shape (places_in cols names) >>= λ places. checked fields cols places
+-- columns that make a schema have names of their own
+none_repeats : (b : Bool) (x : Option (ℕ × Column)) (y : Option (ℕ × ℕ))
+    → cond b (option_or (option_map (λ t. schema.Twice t.0) x) (option_map (λ t. schema.Partition t.1) y)) (Some schema.Columns) ≡ None → x ≡ None
+none_repeats true None y e = refl
+none_repeats true (Some x) y e = cc
+none_repeats false x y e = cc
 
 pub schema_back : (text : List ℕ) (s : TableSchema) (names : List (List ℕ)) → value_of_line text ≡ Some (schema_data s.columns) → IsSchema s → places_in s.columns names ≡ Some s.partition
     → schema_of text names ≡ Ok s
-unfolding schema_of
+unfolding schema_of schema_by
 schema_back text s names e is places =
-    let fields = map field_from s.columns in
-    let own : made fields names s.columns ≡ Ok s =
-    ap (λ o. or_shape o >>= checked fields s.columns) places
-    ∙ ap (λ f. shape_of f s >>= λ x. check_types fields x >>= check_invariants fields) (schema_complete s.columns s.partition is)
-    ∙ ap (λ r. r >>= check_invariants fields) (types_back s.columns s)
-    ∙ invariants_back s.columns s in
-    ap (λ o. or_shape o >>= schema_by names) (text_back text s.columns e)
-    ∙ subst (λ cols. made fields names cols ≡ Ok s) (sym (columns_back s.columns)) own
+    let right = schema_complete s.columns s.partition is in
+    let own = none_repeats (is_column_count (length s.columns)) (first_after repeats_name [] s.columns) (first_after (is_wrong_place (length s.columns)) [] s.partition) right in
+    let most = is.most in
+    ap (λ o. or_shape o >>= columns_from [] >>= schema_by names) (text_back text s.columns e)
+    ∙ ap (λ r. r >>= schema_by names) (columns_back [] s.columns own (omega arith))
+    ∙ ap (λ o. or_shape o >>= schema_at s.columns) places
+    ∙ ap (λ f. shape_of f s) right

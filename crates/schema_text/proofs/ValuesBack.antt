@@ -21,11 +21,11 @@ use Rattle.row_base.specs.declared.schema.Column.{Column}
 use Rattle.row_base.specs.Dates.{date_in}
 use Rattle.row_base.specs.Schema.{TableSchema, IsSchema, is_i32}
 use Rattle.row_base.proofs.DateLemmas.{read_is, text_given_back}
-use Rattle.schema_text.specs.Faults.{◌>>=◌}
-use Rattle.schema_text.specs.Numbers.{is_number, is_i64, long_in, if_i32}
-use Rattle.schema_text.specs.Partition.{datum_of, datum_by, null_datum, filled, text_of, or_value, datum_in, cells, partition_row}
+use Rattle.row_base.specs.Faults.{◌>>=◌}
+use Rattle.row_base.specs.Numbers.{is_number, is_i64, long_in}
+use Rattle.schema_text.specs.Partition.{if_i32, datum_of, datum_by, null_datum, filled, text_of, or_value, datum_in, cells, partition_row}
 use Rattle.schema_text.specs.PartitionWritten.{datum_text, datum_at, Texts, texts_from, values_of, partition_values, HasValue, HasValues, data_from, partition_data}
-use Rattle.schema_text.proofs.Decimals.{long_written}
+use Rattle.row_base.proofs.Numerals.{long_written}
 
 -- ---- one datum
 

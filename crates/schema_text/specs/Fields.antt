@@ -1,9 +1,9 @@
 -- The fields of a schema's text (PROTOCOL.md, "Schema Serialization Format").
-use Rattle.std.specs.Prelude.{ℕ, Bool, if◌then◌else◌, List, [], ◌∷◌, codes, Option, Some, None, option_map, option_and_then, is_some}
+use Rattle.std.specs.Prelude.{ℕ, Bool, false, if◌then◌else◌, List, codes, Option, Some, None, option_map, is_some}
 use Rattle.std.specs.Str.{bytes_eq}
-use Rattle.serde_json.specs.Data.{Data, null, boolean, number, string, array, object, Items, no_items, item}
+use Rattle.serde_json.specs.Data.{Data, null, boolean, number, string, array, object, Items}
 use Rattle.serde_json.specs.Find.{as_str, as_bool, as_array}
-use Rattle.json_lines.specs.Gives.{◌>>=◌}
+use Rattle.row_base.specs.Readings.{◌>>=◌}
 use Rattle.json_lines.specs.Kinds.{as_itself, present, needed}
 use Rattle.json_lines.specs.Lines.{object_of_line}
 use Rattle.row_base.specs.declared.row.Kind.{Kind}
@@ -32,6 +32,7 @@ type_in (object ms) = Some None
 abbrev pub invariant_in : Data → Option Bool
 invariant_in d = option_map (λ m. is_some (present (codes "delta.invariants") m)) (as_itself d)
 
+-- a field has the form of a field: a name, a type, whether it is nullable, and metadata
 unfoldable pub field_of : Data → Option Field
 field_of d =
     needed as_str (codes "name") d >>= λ name.
@@ -40,19 +41,19 @@ field_of d =
     needed invariant_in (codes "metadata") d >>= λ invariant.
     Some (record { name = name; kind = type; nullable = nullable; has_invariant = invariant })
 
-abbrev pub fields_in : Items → Option (List Field)
-fields_in no_items = Some []
-fields_in (item d ds) = option_and_then (λ f. option_map (λ fs. f ∷ fs) (fields_in ds)) (field_of d)
+-- the name of a struct type's kind
+abbrev pub names_struct : Option (List ℕ) → Bool
+names_struct None = false
+names_struct (Some name) = bytes_eq name (codes "struct")
 
-unfoldable pub as_fields : Data → Option (List Field)
-as_fields d = option_and_then fields_in (as_array d)
+-- a struct type
+unfoldable pub is_struct : Data → Bool
+is_struct d = names_struct (needed as_str (codes "type") d)
 
--- the fields of a struct type
-unfoldable pub struct_fields : Data → Option (List Field)
-struct_fields d =
-    needed as_str (codes "type") d >>= λ type.
-    if bytes_eq type (codes "struct") then needed as_fields (codes "fields") d else None
+-- the fields of a struct type, which need not have the form of fields
+unfoldable pub struct_fields : Data → Option Items
+struct_fields d = if is_struct d then needed as_array (codes "fields") d else None
 
 -- the fields of the struct type that a text is
-unfoldable pub fields_of_text : List ℕ → Option (List Field)
+unfoldable pub fields_of_text : List ℕ → Option Items
 fields_of_text text = object_of_line text >>= struct_fields

@@ -1,6 +1,6 @@
 pub mod Faults
 pub mod Fields
-pub mod Numbers
+pub mod FirstFault
 pub mod Partition
 pub mod PartitionWritten
 pub mod Schema

@@ -1,27 +1,38 @@
 -- What the values of a file's partition columns stand for (PROTOCOL.md, "Partition Value Serialization").
-use Rattle.std.specs.Prelude.{ℕ, ◌+◌, ◌==◌, nat_le, Bool, true, false, if◌then◌else◌, List, [], ◌∷◌, length, codes, Option, Some, None, option_map, Result, Ok, Err}
+use Rattle.std.specs.Prelude.{ℕ, ◌+◌, ◌==◌, nat_le, Bool, true, false, if◌then◌else◌, List, [], ◌∷◌, length, codes, Option, Some, None, option_map, Result, Ok, Err, ℤ, option_and_then}
 use Rattle.std.specs.List.{list_any}
 use Rattle.std.specs.Str.{bytes_eq}
 use Rattle.std.specs.Cmp.Lexicographic.{pointwise}
-use Rattle.json_lines.specs.declared.map.PartitionValue.{PartitionValue}
+use Rattle.log_actions.specs.declared.partition_map.PartitionValue.{PartitionValue}
 use Rattle.row_base.specs.declared.row.Datum.{Datum}
 use Rattle.row_base.specs.declared.row.Datum.TheVariants as datum
 use Rattle.row_base.specs.declared.row.Kind.{Kind}
 use Rattle.row_base.specs.declared.row.Kind.TheVariants as kind
 use Rattle.row_base.specs.declared.schema.Column.{Column}
 use Rattle.row_base.specs.Dates.{date_in}
-use Rattle.row_base.specs.Schema.{TableSchema}
+use Rattle.row_base.specs.Numbers.{long_in}
+use Rattle.row_base.specs.Schema.{TableSchema, is_i32}
 use Rattle.schema_text.specs.declared.fault.SchemaTextFault.{SchemaTextFault}
 use Rattle.schema_text.specs.declared.fault.SchemaTextFault.TheVariants as faults
-use Rattle.schema_text.specs.Faults.{◌>>=◌}
-use Rattle.schema_text.specs.Numbers.{long_in, integer_in}
+use Rattle.row_base.specs.Faults.{◌>>=◌}
 
+-- a long in decimal
 abbrev pub long_datum : List ℕ → Option Datum
 long_datum text = option_map datum.Long (long_in text)
 
+-- a number of 32 bits
+abbrev pub if_i32 : ℤ → Option ℤ
+if_i32 z = if is_i32 z then Some z else None
+
+-- the number of 32 bits that a text writes
+abbrev pub integer_in : List ℕ → Option ℤ
+integer_in text = option_and_then if_i32 (long_in text)
+
+-- an integer in decimal
 abbrev pub integer_datum : List ℕ → Option Datum
 integer_datum text = option_map datum.Integer (integer_in text)
 
+-- a truth value
 abbrev pub boolean_datum : List ℕ → Option Datum
 boolean_datum text =
     if bytes_eq text (codes "true") then Some (datum.Boolean true)
@@ -31,6 +42,7 @@ boolean_datum text =
 abbrev pub text_datum : List ℕ → Option Datum
 text_datum text = if nat_le (length text) 65535 then Some (datum.Text text) else None
 
+-- a date
 abbrev pub date_datum : List ℕ → Option Datum
 date_datum text = option_map datum.Date (date_in text)
 
@@ -62,6 +74,7 @@ abbrev pub datum_by : Column → Option (List ℕ) → Option Datum
 datum_by c None = null_datum c.nullable
 datum_by c (Some text) = datum_of c.kind text
 
+-- the datum that there is, or the fault of the column of this name
 abbrev pub or_value : List ℕ → Option Datum → Result Datum SchemaTextFault
 or_value name None = Err (faults.Value name)
 or_value name (Some d) = Ok d

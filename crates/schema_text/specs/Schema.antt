@@ -1,25 +1,43 @@
--- The schema that a text and the names of the partition columns stand for, or why they stand for none: the shape first,
--- then the first column of a type that isn't supported, then the first column with an invariant.
-use Rattle.std.specs.Prelude.{ℕ, ◌==◌, if◌then◌else◌, List, [], ◌∷◌, map, Option, Some, None, option_map, option_and_then, unwrap_or, is_some, Result, Ok, Err}
+-- The schema that a text and the names of the partition columns stand for, or why they stand for none: the first fault
+-- by place. The fields come in order, and at one field its shape first, then its type, then an invariant.
+use Rattle.std.specs.Prelude.{ℕ, ◌==◌, nat_lt, not, ◌&&◌, if◌then◌else◌, List, [], ◌∷◌, ◌++◌, length, Option, Some, None, option_map, option_and_then, Result, Ok, Err}
 use Rattle.std.specs.List.{position}
 use Rattle.std.specs.Cmp.Lexicographic.{pointwise}
-use Rattle.row_base.specs.declared.row.Kind.TheVariants as kind
+use Rattle.serde_json.specs.Data.{Data, Items, no_items, item}
+use Rattle.row_base.specs.declared.row.Kind.{Kind}
 use Rattle.row_base.specs.declared.schema.Column.{Column}
 use Rattle.row_base.specs.declared.schema.SchemaFault.{SchemaFault}
-use Rattle.row_base.specs.Schema.{TableSchema, schema_fault}
+use Rattle.row_base.specs.Schema.{TableSchema, is_named, schema_fault}
 use Rattle.schema_text.specs.declared.fault.SchemaTextFault.{SchemaTextFault}
 use Rattle.schema_text.specs.declared.fault.SchemaTextFault.TheVariants as faults
 use Rattle.schema_text.specs.declared.field.Field.{Field}
-use Rattle.schema_text.specs.Faults.{◌>>=◌}
-use Rattle.schema_text.specs.Fields.{fields_of_text}
+use Rattle.row_base.specs.Faults.{◌>>=◌}
+use Rattle.schema_text.specs.Fields.{field_of, fields_of_text}
 
+-- what there is, or the fault of the shape
 abbrev pub or_shape : {A : Type 0} → Option A → Result A SchemaTextFault
 or_shape None = Err faults.Shape
 or_shape (Some x) = Ok x
 
--- the column of a field; one of another type is refused before it stands for a column
-abbrev pub column_of : Field → Column
-column_of f = record { name = f.name; kind = unwrap_or f.kind kind.String; nullable = f.nullable }
+-- the column of a field whose type is supported, unless it has an invariant
+abbrev pub column_of_kind : Field → Option Kind → Result Column SchemaTextFault
+column_of_kind f None = Err (faults.Kind f.name)
+column_of_kind f (Some k) =
+    if f.has_invariant then Err (faults.Invariant f.name) else Ok (record { name = f.name; kind = k; nullable = f.nullable })
+
+-- the column of a field behind these columns: at most 64, with names of their own
+unfoldable pub column_of : List Column → Field → Result Column SchemaTextFault
+column_of before f =
+    if nat_lt (length before) 64 && not (is_named before f.name) then column_of_kind f f.kind else Err faults.Shape
+
+-- the column of a field's data behind these columns
+unfoldable pub next_column : List Column → Data → Result Column SchemaTextFault
+next_column before d = or_shape (field_of d) >>= column_of before
+
+-- these columns and those of the fields behind them
+abbrev pub columns_from : List Column → Items → Result (List Column) SchemaTextFault
+columns_from before no_items = Ok before
+columns_from before (item d ds) = next_column before d >>= λ c. columns_from (before ++ c ∷ []) ds
 
 -- the place of the column of this name
 unfoldable pub place_in : List Column → List ℕ → Option ℕ
@@ -31,29 +49,19 @@ places_in columns [] = Some []
 places_in columns (name ∷ names) =
     option_and_then (λ p. option_map (λ ps. p ∷ ps) (places_in columns names)) (place_in columns name)
 
+-- what there is, unless there is a fault
 abbrev pub shape_of : {A : Type 0} → Option SchemaFault → A → Result A SchemaTextFault
 shape_of None x = Ok x
 shape_of (Some f) x = Err faults.Shape
 
--- the first column whose type isn't supported
-abbrev pub check_types : {A : Type 0} → List Field → A → Result A SchemaTextFault
-check_types [] x = Ok x
-check_types (f ∷ fs) x = if is_some f.kind then check_types fs x else Err (faults.Kind f.name)
+-- the schema of these columns, partitioned by the columns at these places
+abbrev pub schema_at : List Column → List ℕ → Result TableSchema SchemaTextFault
+schema_at columns places = shape_of (schema_fault columns places) (record { columns = columns; partition = places })
 
--- the first column with an invariant
-abbrev pub check_invariants : {A : Type 0} → List Field → A → Result A SchemaTextFault
-check_invariants [] x = Ok x
-check_invariants (f ∷ fs) x = if f.has_invariant then Err (faults.Invariant f.name) else check_invariants fs x
+-- the same, partitioned by the columns of these names
+unfoldable pub schema_by : List (List ℕ) → List Column → Result TableSchema SchemaTextFault
+schema_by names columns = or_shape (places_in columns names) >>= schema_at columns
 
--- the schema of these fields, partitioned by the columns at these places
-abbrev pub schema_at : List Field → List ℕ → Result TableSchema SchemaTextFault
-schema_at fields places =
-    shape_of (schema_fault (map column_of fields) places) (record { columns = map column_of fields; partition = places }) >>= λ schema.
-    check_types fields schema >>= λ schema.
-    check_invariants fields schema
-
-abbrev pub schema_by : List (List ℕ) → List Field → Result TableSchema SchemaTextFault
-schema_by names fields = or_shape (places_in (map column_of fields) names) >>= schema_at fields
-
+-- the schema that a text stands for, partitioned by the columns of these names
 unfoldable pub schema_of : List ℕ → List (List ℕ) → Result TableSchema SchemaTextFault
-schema_of text names = or_shape (fields_of_text text) >>= schema_by names
+schema_of text names = or_shape (fields_of_text text) >>= columns_from [] >>= schema_by names

@@ -1,11 +1,13 @@
 //! The fields of a schema's text.
-ghost use Rattle.std.specs.Prelude.{◌≡◌, codes, Some, MatchResult};
+ghost use Rattle.std.specs.Prelude.{◌≡◌, codes, option_map};
+ghost use Rattle.serde_json.specs.Find.{as_array};
 ghost use Rattle.serde_json.specs.View.{view, items_view};
-ghost use Rattle.json_lines.specs.Gives.{Gives, Fails};
-ghost use Rattle.json_lines.specs.Kinds.{needed};
+ghost use Rattle.row_base.specs.Readings.{Gives};
+ghost use Rattle.json_lines.specs.Gives.{is_memory};
+ghost use Rattle.json_lines.specs.Kinds as kinds;
 ghost use Rattle.schema_text.specs.Fields as spec;
 
-use json_lines::{ShapeFault, needed_flag, needed_text, present, read_object};
+use json_lines::{ShapeFault, needed, present};
 use row_base::{Kind, Text};
 use serde_json::Value;
 use std::alloc::Global;
@@ -24,23 +26,18 @@ pub(crate) struct Field {
 fn kind_named(name: &str) -> Option<Kind>
     ensures { result ≡ spec.kind_named name.now }
 {
-    if name == "long" {
-        Some(Kind::Long)
-    } else if name == "integer" {
-        Some(Kind::Integer)
-    } else if name == "boolean" {
-        Some(Kind::Boolean)
-    } else if name == "string" {
-        Some(Kind::String)
-    } else if name == "date" {
-        Some(Kind::Date)
-    } else {
-        None
+    match name {
+        "long" => Some(Kind::Long),
+        "integer" => Some(Kind::Integer),
+        "boolean" => Some(Kind::Boolean),
+        "string" => Some(Kind::String),
+        "date" => Some(Kind::Date),
+        _ => None,
     }
 }
 
 fn type_in(value: &Value) -> Result<Option<Kind>, ShapeFault>
-    ensures { Gives result (spec.type_in (view value.now)) }
+    ensures { Gives is_memory (λ x. x) result (spec.type_in (view value.now)) }
 {
     match value {
         Value::String(name) => Ok(kind_named(name.as_str())),
@@ -51,7 +48,7 @@ fn type_in(value: &Value) -> Result<Option<Kind>, ShapeFault>
 
 #[tactic(auto, unfolding(json_lines::specs::Kinds::needed))]
 fn needed_type(field: &Value) -> Result<Option<Kind>, ShapeFault>
-    ensures { Gives result (needed spec.type_in (codes "type") (view field.now)) }
+    ensures { Gives is_memory (λ x. x) result (kinds.needed spec.type_in (codes "type") (view field.now)) }
 {
     match present(field, "type") {
         Some(value) => type_in(value),
@@ -60,7 +57,7 @@ fn needed_type(field: &Value) -> Result<Option<Kind>, ShapeFault>
 }
 
 fn invariant_in(value: &Value) -> Result<bool, ShapeFault>
-    ensures { Gives result (spec.invariant_in (view value.now)) }
+    ensures { Gives is_memory (λ x. x) result (spec.invariant_in (view value.now)) }
 {
     if value.is_object() {
         Ok(present(value, "delta.invariants").is_some())
@@ -71,7 +68,7 @@ fn invariant_in(value: &Value) -> Result<bool, ShapeFault>
 
 #[tactic(auto, unfolding(json_lines::specs::Kinds::needed))]
 fn needed_invariant(field: &Value) -> Result<bool, ShapeFault>
-    ensures { Gives result (needed spec.invariant_in (codes "metadata") (view field.now)) }
+    ensures { Gives is_memory (λ x. x) result (kinds.needed spec.invariant_in (codes "metadata") (view field.now)) }
 {
     match present(field, "metadata") {
         Some(value) => invariant_in(value),
@@ -79,13 +76,14 @@ fn needed_invariant(field: &Value) -> Result<bool, ShapeFault>
     }
 }
 
+/// The field of a struct type that a value is.
 #[tactic(auto, unfolding(crate::specs::Fields::field_of))]
-fn read_field(alloc: Global, value: &Value) -> Result<Field, ShapeFault>
-    ensures { Gives result (spec.field_of (view value.now)) }
+pub(crate) fn read_field(alloc: Global, value: &Value) -> Result<Field, ShapeFault>
+    ensures { Gives is_memory (λ x. x) result (spec.field_of (view value.now)) }
 {
-    let name = needed_text(alloc, value, "name")?;
+    let name = needed(alloc, value, "name")?;
     let kind = needed_type(value)?;
-    let nullable = needed_flag(value, "nullable")?;
+    let nullable = needed(alloc, value, "nullable")?;
     let has_invariant = needed_invariant(value)?;
     Ok(Field {
         name,
@@ -95,54 +93,34 @@ fn read_field(alloc: Global, value: &Value) -> Result<Field, ShapeFault>
     })
 }
 
-fn fields_in(alloc: Global, items: &[Value]) -> Result<Vec<Field>, ShapeFault>
-    ensures { MatchResult result (λ v. spec.fields_in (items_view items.now) ≡ Some v.items) (λ e. Fails e (spec.fields_in (items_view items.now))) }
+#[tactic(auto, unfolding(crate::specs::Fields::is_struct, json_lines::specs::Kinds::needed))]
+fn is_struct(value: &Value) -> bool
+    ensures { result ≡ spec.is_struct (view value.now) }
 {
-    let mut fields = Vec::new(alloc);
-    for value in items {
-        fields.push(read_field(alloc, value)?)?;
-    }
-    Ok(fields)
-}
-
-#[tactic(auto, unfolding(crate::specs::Fields::as_fields))]
-fn as_fields(alloc: Global, value: &Value) -> Result<Vec<Field>, ShapeFault>
-    ensures { MatchResult result (λ v. spec.as_fields (view value.now) ≡ Some v.items) (λ e. Fails e (spec.as_fields (view value.now))) }
-{
-    match value.as_array() {
-        Some(items) => fields_in(alloc, items.as_slice()),
-        None => Err(ShapeFault::Shape),
+    match present(value, "type") {
+        Some(Value::String(name)) => name.as_str() == "struct",
+        _ => false,
     }
 }
 
 #[tactic(auto, unfolding(json_lines::specs::Kinds::needed))]
-fn needed_fields(alloc: Global, value: &Value) -> Result<Vec<Field>, ShapeFault>
-    ensures { MatchResult result (λ v. needed spec.as_fields (codes "fields") (view value.now) ≡ Some v.items)
-        (λ e. Fails e (needed spec.as_fields (codes "fields") (view value.now))) }
+fn needed_items(value: &Value) -> Option<&[Value]>
+    ensures { option_map (λ v. items_view v.now) result ≡ kinds.needed as_array (codes "fields") (view value.now) }
 {
     match present(value, "fields") {
-        Some(value) => as_fields(alloc, value),
-        None => Err(ShapeFault::Shape),
+        Some(Value::Array(items)) => Some(items.as_slice()),
+        _ => None,
     }
 }
 
+/// The fields of a struct type.
 #[tactic(auto, unfolding(crate::specs::Fields::struct_fields))]
-fn struct_fields(alloc: Global, value: &Value) -> Result<Vec<Field>, ShapeFault>
-    ensures { MatchResult result (λ v. spec.struct_fields (view value.now) ≡ Some v.items) (λ e. Fails e (spec.struct_fields (view value.now))) }
+pub(crate) fn struct_fields(value: &Value) -> Option<&[Value]>
+    ensures { option_map (λ v. items_view v.now) result ≡ spec.struct_fields (view value.now) }
 {
-    let name = needed_text(alloc, value, "type")?;
-    if name.as_str() == "struct" {
-        needed_fields(alloc, value)
+    if is_struct(value) {
+        needed_items(value)
     } else {
-        Err(ShapeFault::Shape)
+        None
     }
-}
-
-/// The fields of the struct type that a text is.
-#[tactic(auto, unfolding(crate::specs::Fields::fields_of_text))]
-pub(crate) fn fields_of_text(alloc: Global, text: &Text) -> Result<Vec<Field>, ShapeFault>
-    ensures { MatchResult result (λ v. spec.fields_of_text text.now ≡ Some v.items) (λ e. Fails e (spec.fields_of_text text.now)) }
-{
-    let value = read_object(alloc, text.as_str().as_bytes())?;
-    struct_fields(alloc, &value)
 }

@@ -3,13 +3,10 @@
 
 mod fault;
 mod field;
-mod number;
 mod partition;
 mod partition_written;
 mod schema;
 mod schema_written;
-#[cfg(test)]
-mod tests;
 
 pub use fault::SchemaTextFault;
 pub use partition::read_partition;

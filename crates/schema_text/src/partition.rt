@@ -1,24 +1,33 @@
 //! The values of a file's partition columns.
 ghost use Rattle.std.specs.Prelude.{◌≡◌, IfOk, option_map};
 ghost use Rattle.std.specs.List.{All};
-ghost use Rattle.schema_text.specs.Faults.{Reads};
+ghost use Rattle.row_base.specs.Faults.{Reads};
+ghost use Rattle.schema_text.specs.Faults.{is_memory};
 ghost use Rattle.schema_text.specs.Partition as spec;
 ghost use Rattle.schema_text.specs.PartitionWritten.{HasText};
 
 use crate::fault::SchemaTextFault;
-use crate::number::{integer_in, long_in};
-use json_lines::PartitionMap;
+use log_actions::PartitionMap;
+use row_base::limits::MAX_TEXT_BYTES;
+use row_base::numbers::read_long;
 use row_base::{Column, Datum, Kind, NoMemory, Row, Schema, Text, read_date};
 use std::alloc::Global;
-
-/// The most bytes of a text.
-const MAX_TEXT: usize = 65_535;
 
 fn long_datum(text: &Text) -> Option<Datum>
     ensures { result ≡ spec.long_datum text.now }
 {
-    match long_in(text.as_str().as_bytes()) {
+    match read_long(text.as_str().as_bytes()) {
         Some(number) => Some(Datum::Long(number)),
+        None => None,
+    }
+}
+
+/// The number of 32 bits that a text writes in decimal.
+fn integer_in(text: &[u8]) -> Option<i32>
+    ensures { result ≡ spec.integer_in text.now }
+{
+    match read_long(text) {
+        Some(number) => i32::try_from(number).ok(),
         None => None,
     }
 }
@@ -47,7 +56,7 @@ fn boolean_datum(text: &Text) -> Option<Datum>
 fn text_datum(text: &Text) -> Result<Option<Datum>, NoMemory>
     ensures { IfOk result (λ o. o ≡ spec.text_datum text.now) }
 {
-    if text.as_str().len() <= MAX_TEXT {
+    if text.as_str().len() <= MAX_TEXT_BYTES {
         Ok(Some(Datum::Text(text.copy()?)))
     } else {
         Ok(None)
@@ -106,7 +115,7 @@ fn text_of<'a>(values: &'a PartitionMap, name: &Text) -> Option<&'a Text>
 
 /// The datum that a text stands for in a column.
 fn some_datum(column: &Column, text: &Text) -> Result<Datum, SchemaTextFault>
-    ensures { Reads result (spec.or_value column.now.name (spec.datum_of column.now.kind text.now)) }
+    ensures { Reads is_memory result (spec.or_value column.now.name (spec.datum_of column.now.kind text.now)) }
 {
     match datum_of(column.kind, text)? {
         Some(datum) => Ok(datum),
@@ -118,7 +127,7 @@ fn some_datum(column: &Column, text: &Text) -> Result<Datum, SchemaTextFault>
 
 /// The null of a column.
 fn null_datum(column: &Column) -> Result<Datum, SchemaTextFault>
-    ensures { Reads result (spec.or_value column.now.name (spec.null_datum column.now.nullable)) }
+    ensures { Reads is_memory result (spec.or_value column.now.name (spec.null_datum column.now.nullable)) }
 {
     if column.nullable {
         Ok(Datum::Null)
@@ -132,7 +141,7 @@ fn null_datum(column: &Column) -> Result<Datum, SchemaTextFault>
 /// The datum that a partition column has.
 #[tactic(auto, unfolding(crate::specs::Partition::datum_in))]
 fn datum_in(values: &PartitionMap, column: &Column) -> Result<Datum, SchemaTextFault>
-    ensures { Reads result (spec.datum_in values.now column.now) }
+    ensures { Reads is_memory result (spec.datum_in values.now column.now) }
 {
     match text_of(values, &column.name) {
         Some(text) => some_datum(column, text),
@@ -147,7 +156,7 @@ fn cell(
     place: u32,
     column: &Column,
 ) -> Result<Datum, SchemaTextFault>
-    ensures { Reads result (spec.cell schema.now.partition values.now place column.now) }
+    ensures { Reads is_memory result (spec.cell schema.now.partition values.now place column.now) }
 {
     if schema.is_partition(place) {
         datum_in(values, column)
@@ -159,7 +168,7 @@ fn cell(
 /// The data of all columns.
 #[tactic(auto, unfolding(crate::specs::Partition::partition_row))]
 fn row_of(alloc: Global, schema: &Schema, values: &PartitionMap) -> Result<Row, SchemaTextFault>
-    ensures { Reads result (spec.partition_row schema.now values.now) }
+    ensures { Reads is_memory result (spec.partition_row schema.now values.now) }
 {
     let mut row = Vec::new(alloc);
     for (i, column) in schema.columns().iter().enumerate() {
@@ -176,7 +185,7 @@ pub fn read_partition(
     schema: &Schema,
     values: &PartitionMap,
 ) -> Result<Row, SchemaTextFault>
-    ensures row { Reads result (spec.partition_row schema.now values.now) }
+    ensures row { Reads is_memory result (spec.partition_row schema.now values.now) }
     ensures texts { IfOk result (λ r. All HasText r) }
 {
     let row = row_of(alloc, schema, values)?;

@@ -5,7 +5,7 @@ ghost use Rattle.row_base.specs.Schema.{IsSchema};
 ghost use Rattle.schema_text.specs.Partition.{partition_row};
 ghost use Rattle.schema_text.specs.PartitionWritten as spec;
 
-use json_lines::{PartitionMap, PartitionValue};
+use log_actions::{PartitionMap, PartitionValue};
 use row_base::{Datum, NoMemory, Row, Schema, Text, write_date};
 use std::alloc::Global;
 use std::collections::BTreeMap;

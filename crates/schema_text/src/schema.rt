@@ -1,29 +1,82 @@
 //! The schema that a text stands for.
-ghost use Rattle.std.specs.Prelude.{◌≡◌, ◌<◌, ◌≤◌, map, length, option_map, IfOk, IfSome};
-ghost use Rattle.schema_text.specs.Faults.{Reads};
+ghost use Rattle.std.specs.Prelude.{◌≡◌, ◌≢◌, ◌<◌, ◌≤◌, [], length, option_map, IfOk, IfErr, IfSome, Ok, MatchResult};
+ghost use Rattle.serde_json.specs.View.{view, items_view};
+ghost use Rattle.row_base.specs.Schema.{is_named};
+ghost use Rattle.schema_text.specs.declared.fault.SchemaTextFault.TheVariants as faults;
+ghost use Rattle.row_base.specs.Faults.{Reads, FaultOf};
+ghost use Rattle.schema_text.specs.Faults.{is_memory};
+ghost use Rattle.schema_text.specs.FirstFault.{IsTextOf, IsFirstFault};
 ghost use Rattle.schema_text.specs.Schema as spec;
 
 use crate::fault::SchemaTextFault;
-use crate::field::{Field, fields_of_text};
-use row_base::{Column, Kind, MAX_COLUMNS, NoMemory, Schema, Text};
+use crate::field::{Field, read_field, struct_fields};
+use json_lines::read_object;
+use row_base::limits::MAX_COLUMNS;
+use row_base::{Column, NoMemory, Schema, Text};
+use serde_json::Value;
 use std::alloc::Global;
 
-fn column_of(field: &Field) -> Result<Column, NoMemory>
-    ensures { IfOk result (λ c. c ≡ spec.column_of field.now) }
+/// Whether a column has this name.
+fn has_name(columns: &[Column], name: &Text) -> bool
+    ensures { result ≡ is_named columns.now name.now }
 {
-    Ok(Column {
-        name: field.name.copy()?,
-        kind: field.kind.unwrap_or(Kind::String),
-        nullable: field.nullable,
-    })
+    columns.iter().any(|column| column.name == *name)
 }
 
-fn columns_of(alloc: Global, fields: &[Field]) -> Result<Vec<Column>, NoMemory>
-    ensures { IfOk result (λ v. v.items ≡ map spec.column_of fields.now) }
+/// The column of a field whose type is supported, unless it has an invariant.
+fn column_of_kind(field: Field) -> Result<Column, SchemaTextFault>
+    ensures { Reads is_memory result (spec.column_of_kind field field.kind) }
 {
-    let mut columns = Vec::with_capacity(alloc, fields.len())?;
-    for field in fields {
-        columns.push(column_of(field)?)?;
+    let Field {
+        name,
+        kind,
+        nullable,
+        has_invariant,
+    } = field;
+    match kind {
+        None => Err(SchemaTextFault::Kind { name }),
+        Some(_) if has_invariant => Err(SchemaTextFault::Invariant { name }),
+        Some(kind) => Ok(Column {
+            name,
+            kind,
+            nullable,
+        }),
+    }
+}
+
+/// The column of a field behind these columns.
+#[tactic(auto, unfolding(crate::specs::Schema::column_of))]
+fn column_of(columns: &[Column], field: Field) -> Result<Column, SchemaTextFault>
+    ensures column { Reads is_memory result (spec.column_of columns.now field) }
+    ensures few { IfOk result (λ _. length columns.now < 64) }
+{
+    if columns.len() < MAX_COLUMNS && !has_name(columns, &field.name) {
+        column_of_kind(field)
+    } else {
+        Err(SchemaTextFault::Shape)
+    }
+}
+
+/// The column of a field's value behind these columns.
+#[tactic(auto, unfolding(crate::specs::Schema::next_column))]
+fn next_column(alloc: Global, columns: &[Column], value: &Value) -> Result<Column, SchemaTextFault>
+    ensures column { Reads is_memory result (spec.next_column columns.now (view value.now)) }
+    ensures few { IfOk result (λ _. length columns.now < 64) }
+{
+    let field = read_field(alloc, value)?;
+    column_of(columns, field)
+}
+
+/// The columns of all fields.
+fn columns_of(alloc: Global, fields: &[Value]) -> Result<Vec<Column>, SchemaTextFault>
+    ensures few { IfOk result (λ v. length v.items ≤ 64) }
+    ensures columns { MatchResult result (λ v. spec.columns_from [] (items_view fields.now) ≡ Ok v.items)
+        (λ e. FaultOf is_memory e (spec.columns_from [] (items_view fields.now))) }
+{
+    let mut columns = Vec::new(alloc);
+    for value in fields {
+        let column = next_column(alloc, &columns, value)?;
+        columns.push(column)?;
     }
     Ok(columns)
 }
@@ -54,74 +107,56 @@ fn places_of(
     Ok(Some(places))
 }
 
-/// The first column whose type isn't supported is refused.
-fn check_types(fields: &[Field], schema: Schema) -> Result<Schema, SchemaTextFault>
-    ensures { Reads result (spec.check_types fields.now schema) }
-{
-    for field in fields {
-        if field.kind.is_none() {
-            return Err(SchemaTextFault::Kind {
-                name: field.name.copy()?,
-            });
-        }
-    }
-    Ok(schema)
-}
-
-/// The first column with an invariant is refused.
-fn check_invariants(fields: &[Field], schema: Schema) -> Result<Schema, SchemaTextFault>
-    ensures { Reads result (spec.check_invariants fields.now schema) }
-{
-    for field in fields {
-        if field.has_invariant {
-            return Err(SchemaTextFault::Invariant {
-                name: field.name.copy()?,
-            });
-        }
-    }
-    Ok(schema)
-}
-
-fn schema_at(
-    fields: &[Field],
-    columns: Vec<Column>,
-    places: Vec<u32>,
-) -> Result<Schema, SchemaTextFault>
-    requires { columns.items ≡ map spec.column_of fields.now }
-    ensures { Reads result (spec.schema_at fields.now places.items) }
+fn schema_at(columns: Vec<Column>, places: Vec<u32>) -> Result<Schema, SchemaTextFault>
+    ensures { Reads is_memory result (spec.schema_at columns.items places.items) }
 {
     match Schema::make(columns, places) {
-        Ok(schema) => check_invariants(fields, check_types(fields, schema)?),
+        Ok(schema) => Ok(schema),
         Err(_) => Err(SchemaTextFault::Shape),
     }
 }
 
-#[tactic(auto, using(crate::proofs::TooMany::too_many))]
-fn schema_by(alloc: Global, names: &[Text], fields: &[Field]) -> Result<Schema, SchemaTextFault>
-    ensures { Reads result (spec.schema_by names.now fields.now) }
+#[tactic(auto, unfolding(crate::specs::Schema::schema_by))]
+fn schema_by(alloc: Global, names: &[Text], columns: Vec<Column>) -> Result<Schema, SchemaTextFault>
+    requires { length columns.items ≤ 64 }
+    ensures { Reads is_memory result (spec.schema_by names.now columns.items) }
 {
-    let columns = columns_of(alloc, fields)?;
-    if MAX_COLUMNS < columns.len() {
-        return Err(SchemaTextFault::Shape);
-    }
     match places_of(alloc, &columns, names)? {
-        Some(places) => schema_at(fields, columns, places),
+        Some(places) => schema_at(columns, places),
+        None => Err(SchemaTextFault::Shape),
+    }
+}
+
+#[tactic(auto, unfolding(crate::specs::Schema::schema_of, crate::specs::Fields::fields_of_text))]
+fn schema_in(alloc: Global, text: &Text, partition: &[Text]) -> Result<Schema, SchemaTextFault>
+    ensures { Reads is_memory result (spec.schema_of text.now partition.now) }
+{
+    let value = read_object(alloc, text.as_str().as_bytes())?;
+    match struct_fields(&value) {
+        Some(fields) => {
+            let columns = columns_of(alloc, fields)?;
+            schema_by(alloc, partition, columns)
+        }
         None => Err(SchemaTextFault::Shape),
     }
 }
 
 /// The schema that a text stands for (PROTOCOL.md, "Schema Serialization Format"), partitioned by the columns of these
-/// names in their order. Its fault is the shape first: the text is JSON of a struct type whose fields have a name, a
-/// type, a flag that says whether they are nullable, and metadata, and the columns and the partition make a schema.
-/// Then comes the first column of a type that isn't supported, then the first that has an invariant.
-#[tactic(auto, unfolding(crate::specs::Schema::schema_of))]
+/// names in their order, or the first fault by place. The text is JSON of a struct type with a list of fields. Then come
+/// the fields in order, and at one field first its shape: a name that no field before has, a type, a flag that says
+/// whether it is nullable, and metadata, among the first 64; then a type that is supported; then that it has no
+/// invariant. In the end the columns and the partition make a schema.
 pub fn read_schema(
     alloc: Global,
     text: &Text,
     partition: &[Text],
 ) -> Result<Schema, SchemaTextFault>
-    ensures { Reads result (spec.schema_of text.now partition.now) }
+    ensures schema { Reads is_memory result (spec.schema_of text.now partition.now) }
+    ensures read { IfOk result (λ s. IsTextOf text.now partition.now s) }
+    ensures first { IfErr result (λ e. e ≢ faults.NoMemory → IsFirstFault text.now partition.now e) }
 {
-    let fields = fields_of_text(alloc, text)?;
-    schema_by(alloc, partition, &fields)
+    match schema_in(alloc, text, partition) {
+        Ok(schema) => Ok(schema),
+        Err(fault) => Err(fault),
+    }
 }

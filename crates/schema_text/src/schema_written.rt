@@ -8,7 +8,7 @@ ghost use Rattle.json_lines.specs.Lines.{value_of_line};
 ghost use Rattle.schema_text.specs.Schema.{schema_of, places_in};
 ghost use Rattle.schema_text.specs.SchemaWritten as spec;
 
-use json_lines::{put_flag, put_text};
+use json_lines::put_member;
 use row_base::{Column, Kind, NoMemory, Schema, Text};
 use serde_json::{Map, Value, put};
 use std::alloc::Global;
@@ -36,8 +36,8 @@ fn field_value(alloc: Global, column: &Column) -> Result<Value, NoMemory>
         "metadata",
         Value::Object(Map::new(alloc)),
     )?;
-    put_text(alloc, &mut members, "name", &column.name)?;
-    put_flag(alloc, &mut members, "nullable", column.nullable)?;
+    put_member(alloc, &mut members, "name", &column.name)?;
+    put_member(alloc, &mut members, "nullable", &column.nullable)?;
     let kind = Value::try_from_str(alloc, kind_text(column.kind))?;
     put(&mut members, alloc, "type", kind)?;
     Ok(Value::Object(members))

@@ -82,10 +82,10 @@ same_parts start other a b x y la lb lx ly e =
 
 -- an identifier has lower-case digits and hyphens
 hex_graphic : (d : ℕ) → d < 16 → IsGraphic (hex_digit lower d)
-hex_graphic d small = (grind (arith, nat_tests), grind (arith, nat_tests))
+hex_graphic d small = (grind (arith, nat_tests), grind (arith, nat_tests), (λ (e : hex_digit lower d ≡ 37). grind (arith, nat_tests)), (λ (e : hex_digit lower d ≡ 58). grind (arith, nat_tests)))
 
 place_graphic : (hyphen_here : Bool) (d : ℕ) → d < 16 → IsGraphic (if hyphen_here then 45 else hex_digit lower d)
-place_graphic true d small = (omega arith, omega arith)
+place_graphic true d small = (omega arith, omega arith, (λ (e : 45 ≡ 37). omega arith), (λ (e : 45 ≡ 58). omega arith))
 place_graphic false d small = hex_graphic d small
 
 pub id_graphic : (n : ℕ) → All IsGraphic (id_text n)

@@ -10,10 +10,10 @@ use Rattle.std.proofs.lemmas.List.{take_at, drop_at, drop_all}
 use Rattle.std.proofs.lemmas.List.Sums.{split_at_first, passes_at_first}
 use Rattle.std.proofs.lemmas.Slice.Eq.{bytes_eq-Decides}
 use Rattle.std.proofs.lemmas.Fmt.{digits_decimal}
-use Rattle.table_rules.specs.Decimals.{number_of}
+use Rattle.row_base.specs.Numbers.{decimal_in}
+use Rattle.row_base.proofs.Numerals.{by_test, decimal_is, decimal_written}
 use Rattle.table_rules.specs.Intervals.{unit_in, scaled, amount_in, interval_in, IsInterval}
-use Rattle.table_rules.proofs.Numerals.{by_test, some_then}
-use Rattle.table_rules.proofs.Decimals.{decimal_is, number-decimal}
+use Rattle.table_rules.proofs.Numerals.{some_then}
 
 abbrev is_space : ℕ → Bool
 is_space b = b == 32
@@ -48,7 +48,7 @@ around_is text lt =
     let byte : get_or text (position_or_len is_space text) 0 ≡ 32 = eqb-true (get_or text (position_or_len is_space text) 0) 32 (passes_at_first is_space text 0 lt) in
     split_at_first is_space text 0 lt ∙ ap (λ b. before_first is_space text ++ (b ∷ after_first is_space text)) byte
 
-amount_by : (text : List ℕ) (number unit : Option ℕ) → number_of (before_first is_space text) ≡ number → unit_in (after_first is_space text) ≡ unit
+amount_by : (text : List ℕ) (number unit : Option ℕ) → decimal_in (before_first is_space text) ≡ number → unit_in (after_first is_space text) ≡ unit
     → amount_in text ≡ option_and_then (λ n. option_and_then (λ u. scaled n u) unit) number
 unfolding amount_in
 amount_by text number unit e f = rw (e, f) refl
@@ -65,7 +65,7 @@ no_amount (Some n) = refl
 amount-without : (text : List ℕ) → length text ≤ position_or_len is_space text → amount_in text ≡ None
 amount-without text le =
     let empty : after_first is_space text ≡ [] = drop_all (position_or_len is_space text + 1) text (omega arith) in
-    amount_by text (number_of (before_first is_space text)) None refl (ap unit_in empty ∙ no_unit) ∙ no_amount (number_of (before_first is_space text))
+    amount_by text (decimal_in (before_first is_space text)) None refl (ap unit_in empty ∙ no_unit) ∙ no_amount (decimal_in (before_first is_space text))
 
 record IsAmount (text : List ℕ) (milliseconds : ℕ) : Type 0 where
   number : ℕ
@@ -77,7 +77,7 @@ record IsAmount (text : List ℕ) (milliseconds : ℕ) : Type 0 where
   is_bounded : milliseconds ≤ 2 ^ 40
 
 amount_from : (text : List ℕ) (m : ℕ) (number unit : Option ℕ) → position_or_len is_space text < length text
-    → number_of (before_first is_space text) ≡ number → unit_in (after_first is_space text) ≡ unit
+    → decimal_in (before_first is_space text) ≡ number → unit_in (after_first is_space text) ≡ unit
     → option_and_then (λ n. option_and_then (λ u. scaled n u) unit) number ≡ Some m → IsAmount text m
 amount_from text m None unit lt e f h = cc
 amount_from text m (Some n) None lt e f h = cc
@@ -97,8 +97,8 @@ amount_from text m (Some n) (Some u) lt e f h =
 
 amount_said : (text : List ℕ) (m : ℕ) → amount_in text ≡ Some m → IsAmount text m
 amount_said text m h = elim (cases_lt (position_or_len is_space text) (length text)) [
-  | inl lt ↦ amount_from text m (number_of (before_first is_space text)) (unit_in (after_first is_space text)) lt refl refl
-      (sym (amount_by text (number_of (before_first is_space text)) (unit_in (after_first is_space text)) refl refl) ∙ h)
+  | inl lt ↦ amount_from text m (decimal_in (before_first is_space text)) (unit_in (after_first is_space text)) lt refl refl
+      (sym (amount_by text (decimal_in (before_first is_space text)) (unit_in (after_first is_space text)) refl refl) ∙ h)
   | inr le ↦ let none = amount-without text le in cc
 ]
 
@@ -161,7 +161,7 @@ amount_read n u unit is bound =
     let small : n < 2 ^ 64 = omega (arith, le_times n u (unit_positive unit u is), bound) in
     let at = place (decimal n) unit (digits_decimal by_test n small) in
     amount_by (decimal n ++ (32 ∷ unit)) (Some n) (Some u)
-    (ap number_of (front_of (decimal n) unit at) ∙ number-decimal n small)
+    (ap decimal_in (front_of (decimal n) unit at) ∙ decimal_written n small)
     (ap unit_in (back_of (decimal n) unit at) ∙ is)
     ∙ scaled_in n u bound
 

@@ -1,6 +1,6 @@
 pub mod Numerals
 pub mod Ids
 pub mod Names
-pub mod Decimals
+pub mod Paths
 pub mod Intervals
 pub mod Properties

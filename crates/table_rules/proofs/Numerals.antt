@@ -11,7 +11,9 @@ use Rattle.std.proofs.lemmas.Str.{digit_value_digit, IsUtf8-from_ascii}
 use Rattle.std.proofs.lemmas.Fmt.{IsAscii-from_digits, decimal_is_IsNumeral}
 use Rattle.std.proofs.lemmas.List.{take_at, drop-set}
 use Rattle.std.proofs.lemmas.Str.Parse.{IsDigitsTest, IsNumeralModel, numerals_by_value, numerals_by_weight, digit_from_value, parse_digits}
-use Rattle.table_rules.specs.Digits.{padded, five_or_more, is_digits, number_in}
+use Rattle.row_base.specs.Numbers.{is_digits, natural_in}
+use Rattle.row_base.proofs.Numerals.{by_test}
+use Rattle.table_rules.specs.Digits.{padded, five_or_more, number_in}
 
 last_digit : (n : ℕ) → digit_value (48 + n % 10) ≡ n % 10
 last_digit n = omega (arith, digit_value_digit (48 + n % 10) (omega arith, omega arith))
@@ -66,38 +68,10 @@ digits-five_or_more n small = elim (cases_lt n 100000) [
 tells_by_test : IsDigitsTest (λ ds. list_all is_ascii_digit ds ≡ true)
 tells_by_test = search rules
 
-pub by_test : IsNumeralModel (λ ds. list_all is_ascii_digit ds ≡ true) (digits_value 10)
-by_test = numerals_by_value (λ ds. list_all is_ascii_digit ds ≡ true) tells_by_test
-
-pub is_digits_parts : (count : ℕ) (text : List ℕ) → is_digits count text ≡ true → (length text ≡ count) × AllDigits 10 text
-is_digits_parts count text h =
-    let parts = and_parts (length text == count) (list_all is_ascii_digit text) h in
-    (eqb-true (length text) count parts.0, by_test.to text parts.1)
-
-number_by : (test fits : Bool) (count : ℕ) (text : List ℕ) → is_digits count text ≡ test → nat_lt (digits_value 10 text) (2 ^ 64) ≡ fits → number_in count text ≡ (if test && fits then Some (digits_value 10 text) else None)
-number_by test fits count text is lt = rw (is, lt) refl
-
--- what a text of digits parses to
-from_parsed : {E : Type 0} (r : Result ℕ E) (o : Option ℕ) (count : ℕ) (text : List ℕ) → 0 < length text → is_digits count text ≡ true → OkIff r ((0 < length text) × (digits_value 10 text < 2 ^ 64)) (digits_value 10 text) → o ≡ result_ok r → o ≡ number_in count text
-from_parsed (Ok n) o count text some is f e =
-    let lt : nat_lt (digits_value 10 text) (2 ^ 64) ≡ true = lt-ltb (digits_value 10 text) (2 ^ 64) f.0.1 in
-    e ∙ ap Some f.1 ∙ sym (number_by true true count text is lt)
-from_parsed (Err fault) o count text some is f e = elim (cases_lt (digits_value 10 text) (2 ^ 64)) [
-  | inl under ↦ absurd (f (some, under))
-  | inr over ↦
-      let lt : nat_lt (digits_value 10 text) (2 ^ 64) ≡ false = le-ltb (digits_value 10 text) (2 ^ 64) over in
-      e ∙ sym (number_by true false count text is lt)
-]
-
-pub parsed : {E : Type 0} (count : ℕ) (text bs : List ℕ) (r : Result ℕ E) (o : Option ℕ) → 0 < count → true ≡ is_digits count text → bs ≡ text → ParsesUnsigned 64 10 bs r → o ≡ result_ok r → o ≡ number_in count text
-parsed count text bs r o some is same h e =
-    let parts = is_digits_parts count text (sym is) in
-    let long : 0 < length text = omega (arith, parts.0) in
-    let digits : list_all is_ascii_digit text ≡ true = by_test.from text parts.1 in
-    from_parsed r o count text long (sym is) (parse_digits by_test 64 text r (rw same at h) digits) e
-
-pub is_utf8 : (count : ℕ) (text : List ℕ) → true ≡ is_digits count text → IsUtf8 text
-is_utf8 count text is = IsUtf8-from_ascii text (IsAscii-from_digits text (is_digits_parts count text (sym is)).1)
+number_by : (long some all fits : Bool) (count : ℕ) (text : List ℕ) → (length text == count) ≡ long → nat_lt 0 (length text) ≡ some → list_all is_ascii_digit text ≡ all
+    → nat_lt (digits_value 10 text) (2 ^ 64) ≡ fits → number_in count text ≡ (if long then (if (some && all) && fits then Some (digits_value 10 text) else None) else None)
+unfolding natural_in
+number_by long some all fits count text a b c d = rw (a, b, c, d) refl
 
 pub ok_from_utf8 : {A E : Type 0} (r : Result A E) (P : A → Type 0) (Q : E → Type 0) → MatchResult r P (λ e. Q e) → ((e : E) → Q e → ⊥) → IsOk r
 ok_from_utf8 (Ok x) P Q h never = search rules
@@ -141,18 +115,27 @@ same_digits xs ys hx hy l e = same_weight xs ys hx hy l (by_weight.same xs hx �
 pub number-padded : (v : ℕ) → v < 2 ^ 64 → number_in 20 (padded 20 v) ≡ Some v
 number-padded v lt =
     let value : digits_value 10 (padded 20 v) ≡ v = value-padded 20 v (omega arith) in
-    let is : is_digits 20 (padded 20 v) ≡ true = and_from (length (padded 20 v) == 20) (list_all is_ascii_digit (padded 20 v)) (eq-eqb (length (padded 20 v)) 20 (length-padded 20 v)) (by_test.from (padded 20 v) (digits-padded 20 v)) in
-    number_by true true 20 (padded 20 v) is (lt-ltb (digits_value 10 (padded 20 v)) (2 ^ 64) (rw value lt)) ∙ ap Some value
+    let long : (length (padded 20 v) == 20) ≡ true = eq-eqb (length (padded 20 v)) 20 (length-padded 20 v) in
+    let some : nat_lt 0 (length (padded 20 v)) ≡ true = lt-ltb 0 (length (padded 20 v)) (omega (arith, length-padded 20 v)) in
+    let all : list_all is_ascii_digit (padded 20 v) ≡ true = by_test.from (padded 20 v) (digits-padded 20 v) in
+    number_by true true true true 20 (padded 20 v) long some all (lt-ltb (digits_value 10 (padded 20 v)) (2 ^ 64) (rw value lt)) ∙ ap Some value
+
+long_then : {A : Type 0} (b : Bool) (o : Option A) (y : A) → (if b then o else None) ≡ Some y → (b ≡ true) × (o ≡ Some y)
+long_then true o y e = (refl, e)
+long_then false o y e = cc
 
 pub some_then : {A : Type 0} (b : Bool) (x y : A) → (if b then Some x else None) ≡ Some y → (b ≡ true) × (x ≡ y)
 some_then true x y e = (refl, cc)
 some_then false x y e = cc
 
 pub number_is : (text : List ℕ) (v : ℕ) → number_in 20 text ≡ Some v → (text ≡ padded 20 v) × (v < 2 ^ 64)
+unfolding natural_in
 number_is text v e =
-    let q = some_then (is_digits 20 text && nat_lt (digits_value 10 text) (2 ^ 64)) (digits_value 10 text) v e in
-    let parts = and_parts (is_digits 20 text) (nat_lt (digits_value 10 text) (2 ^ 64)) q.0 in
-    let digits = is_digits_parts 20 text parts.0 in
+    let l = long_then (length text == 20) (natural_in text) v e in
+    let q = some_then (is_digits text && nat_lt (digits_value 10 text) (2 ^ 64)) (digits_value 10 text) v l.1 in
+    let parts = and_parts (is_digits text) (nat_lt (digits_value 10 text) (2 ^ 64)) q.0 in
+    let all = and_parts (nat_lt 0 (length text)) (list_all is_ascii_digit text) parts.0 in
+    let long : length text ≡ 20 = eqb-true (length text) 20 l.0 in
     let below : digits_value 10 text < 2 ^ 64 = ltb-true (digits_value 10 text) (2 ^ 64) parts.1 in
     let lt : v < 2 ^ 64 = omega (arith, q.1) in
-    (same_digits text (padded 20 v) digits.1 (digits-padded 20 v) (digits.0 ∙ sym (length-padded 20 v)) (q.1 ∙ sym (value-padded 20 v (omega arith))), lt)
+    (same_digits text (padded 20 v) (by_test.to text all.1) (digits-padded 20 v) (long ∙ sym (length-padded 20 v)) (q.1 ∙ sym (value-padded 20 v (omega arith))), lt)

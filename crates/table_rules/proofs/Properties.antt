@@ -17,7 +17,8 @@ use Rattle.table_rules.specs.declared.fault.FeatureFault.TheVariants as faults
 use Rattle.table_rules.specs.declared.rules.Level.{Level}
 use Rattle.table_rules.specs.declared.rules.Level.TheVariants.{WriteSerializable}
 use Rattle.table_rules.specs.declared.rules.Rules.{Rules}
-use Rattle.table_rules.specs.Faults.{Judges, ◌>>=◌}
+use Rattle.row_base.specs.Faults.{◌>>=◌}
+use Rattle.table_rules.specs.Faults.{Judges}
 use Rattle.table_rules.specs.Intervals.{interval_in}
 use Rattle.table_rules.specs.Properties.{level_in, checkpoint_interval_in, append_only_in, entry_of, value_of, or_refused, append_only_of, checkpoint_interval_of, retention_of, level_of, log_retention_of, rules_in, takes, IsBad, IsLeastBad, NamesLeast}
 

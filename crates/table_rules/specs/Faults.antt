@@ -9,12 +9,7 @@ abbrev pub FaultOf : {A : Type 0} → FeatureFault → Result A Feature → Type
 FaultOf (faults.Unsupported feature) r = r ≡ Err feature
 FaultOf faults.NoMemory r = Unit {0}
 
+-- what a call answered is what there is, or what isn't supported
 abbrev pub Judges : {A : Type 0} → Result A FeatureFault → Result A Feature → Type 0
 Judges (Ok x) r = r ≡ Ok x
 Judges (Err f) r = FaultOf f r
-
--- what is looked at next, where all was supported so far
-infixl 10 ◌>>=◌
-abbrev pub ◌>>=◌ : {A B : Type 0} → Result A Feature → (A → Result B Feature) → Result B Feature
-Ok x >>= f = f x
-Err e >>= f = Err e

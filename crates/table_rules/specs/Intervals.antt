@@ -3,7 +3,7 @@ use Rattle.std.specs.Prelude.{◌≡◌, ◌≤◌, ℕ, ◌*◌, ◌^◌, ◌==
 use Rattle.std.specs.List.{before_first, after_first}
 use Rattle.std.specs.Str.{bytes_eq}
 use Rattle.std.specs.Fmt.{decimal}
-use Rattle.table_rules.specs.Decimals.{number_of}
+use Rattle.row_base.specs.Numbers.{decimal_in}
 
 -- the milliseconds of a unit
 unfoldable pub unit_in : List ℕ → Option ℕ
@@ -23,7 +23,7 @@ scaled number unit = if nat_le (number * unit) (2 ^ 40) then Some (number * unit
 unfoldable pub amount_in : List ℕ → Option ℕ
 amount_in text =
     option_and_then (λ number. option_and_then (λ unit. scaled number unit) (unit_in (after_first (λ b. b == 32) text)))
-    (number_of (before_first (λ b. b == 32) text))
+    (decimal_in (before_first (λ b. b == 32) text))
 
 -- the milliseconds of the interval that a text names
 unfoldable pub interval_in : List ℕ → Option ℕ

@@ -3,6 +3,5 @@ pub mod Names
 pub mod Told
 pub mod Faults
 pub mod Protocols
-pub mod Decimals
 pub mod Intervals
 pub mod Properties

@@ -9,8 +9,8 @@ use Rattle.json_lines.specs.declared.map.Entry.{Entry}
 use Rattle.log_actions.specs.declared.action.MetaData.{MetaData}
 use Rattle.log_actions.specs.declared.fault.Feature.{Feature}
 use Rattle.log_actions.specs.declared.fault.Feature.TheVariants as feature
-use Rattle.table_rules.specs.Decimals.{number_of}
-use Rattle.table_rules.specs.Faults.{◌>>=◌}
+use Rattle.row_base.specs.Numbers.{decimal_in}
+use Rattle.row_base.specs.Faults.{◌>>=◌}
 use Rattle.table_rules.specs.Intervals.{interval_in}
 use Rattle.table_rules.specs.declared.fault.FeatureFault.{FeatureFault}
 use Rattle.table_rules.specs.declared.fault.FeatureFault.TheVariants as faults
@@ -26,7 +26,7 @@ if_checkpoint_interval number = if nat_lt 0 number && nat_le number 1000000 then
 
 -- from 1 to 1,000,000 commits
 abbrev pub checkpoint_interval_in : List ℕ → Option ℕ
-checkpoint_interval_in text = option_and_then if_checkpoint_interval (number_of text)
+checkpoint_interval_in text = option_and_then if_checkpoint_interval (decimal_in text)
 
 -- a table of which only rows are added isn't supported
 abbrev pub append_only_in : List ℕ → Option Bool

@@ -3,11 +3,9 @@ ghost use Rattle.std.specs.Prelude.{◌≡◌, ◌==◌, ℕ, IfSome, IfNone};
 ghost use Rattle.std.specs.List.{before_first, after_first};
 ghost use Rattle.table_rules.specs.Intervals as spec;
 
-use crate::decimal::decimal_number;
 use row_base::Text;
-
-/// The longest interval: 2^40 milliseconds.
-const MAX_INTERVAL: u64 = 1 << 40;
+use row_base::limits::MAX_WAIT;
+use row_base::numbers::read_decimal;
 
 #[tactic(auto, unfolding(crate::specs::Intervals::unit_in))]
 fn unit_in(name: &str) -> Option<u64>
@@ -28,7 +26,7 @@ fn scaled(number: u64, unit: u64) -> Option<u64>
     ensures { result ≡ spec.scaled number unit }
 {
     match number.checked_mul(unit) {
-        Some(interval) if interval <= MAX_INTERVAL => Some(interval),
+        Some(interval) if interval <= MAX_WAIT => Some(interval),
         _ => None,
     }
 }
@@ -48,7 +46,7 @@ fn amount_in(text: &str) -> Option<u64>
     ensures { result ≡ spec.amount_in text.now }
 {
     let (number, unit) = around_space(text);
-    scaled(decimal_number(number)?, unit_in(unit)?)
+    scaled(read_decimal(number.as_bytes())?, unit_in(unit)?)
 }
 
 #[tactic(auto, unfolding(crate::specs::Intervals::interval_in))]

@@ -3,7 +3,6 @@
 #![tactic(auto)]
 
 mod data;
-mod decimal;
 mod digits;
 mod fault;
 mod interval;
@@ -19,6 +18,3 @@ pub use log::{LOG_PREFIX, LogName, checkpoint_name, commit_name, log_prefix, rea
 pub use protocol::accepts;
 pub use rules::{Level, Rules, rules_of};
 pub use told::names_are_told_apart;
-
-#[cfg(test)]
-mod tests;

@@ -5,8 +5,8 @@ ghost use Rattle.table_rules.specs.Names as spec;
 
 use crate::digits::{number_of, padded_digits};
 use edge_api::Name;
-use row_base::Text;
-use std::alloc::{AllocError, Global};
+use row_base::{NoMemory, Text};
+use std::alloc::Global;
 
 /// What each name of the log begins with.
 pub const LOG_PREFIX: &str = "_delta_log/";
@@ -29,38 +29,38 @@ pub enum LogName {
 }
 
 /// What each name of the log begins with, as a name. The error is want of memory.
-pub fn log_prefix(alloc: Global) -> Result<Name, AllocError>
+pub fn log_prefix(alloc: Global) -> Result<Name, NoMemory>
     ensures { IfOk result (λ name. name ≡ spec.log_prefix) }
 {
     Name::make(alloc, LOG_PREFIX)
 }
 
-fn version_name(alloc: Global, version: u64, end: &str) -> Result<Name, AllocError>
+fn version_name(alloc: Global, version: u64, end: &str) -> Result<Name, NoMemory>
     ensures { IfOk result (λ name. name ≡ spec.version_text version end.now) }
 {
     let digits = padded_digits::<20>(version);
     let mut name = String::from_str(alloc, LOG_PREFIX)?;
     name.push_str(str::from_utf8(&digits).unwrap())?;
     name.push_str(end)?;
-    Name::from_string(alloc, name)
+    Name::from_string(name)
 }
 
 /// The name of a version's commit. The error is want of memory.
-pub fn commit_name(alloc: Global, version: u64) -> Result<Name, AllocError>
+pub fn commit_name(alloc: Global, version: u64) -> Result<Name, NoMemory>
     ensures { IfOk result (λ name. name ≡ spec.commit_text version) }
 {
     version_name(alloc, version, ".json")
 }
 
-fn checkpoint_end(alloc: Global, id: &str) -> Result<String, AllocError>
+fn checkpoint_end(alloc: Global, id: &str) -> Result<String, NoMemory>
     ensures { IfOk result (λ end. string_bytes end ≡ spec.checkpoint_end id.now) }
 {
-    format!(in alloc; ".checkpoint.{id}.json")
+    Ok(format!(in alloc; ".checkpoint.{id}.json")?)
 }
 
 /// The name of a version's checkpoint in JSON (PROTOCOL.md, "Checkpoints"). Its identifier has one character or more,
 /// and neither a dot nor a slash. The error is want of memory.
-pub fn checkpoint_name(alloc: Global, version: u64, id: &Text) -> Result<Name, AllocError>
+pub fn checkpoint_name(alloc: Global, version: u64, id: &Text) -> Result<Name, NoMemory>
     requires { spec.is_id id.now ≡ true }
     ensures { IfOk result (λ name. name ≡ spec.checkpoint_text version id.now) }
 {

@@ -6,7 +6,7 @@ ghost use Rattle.table_rules.specs.Protocols as spec;
 
 use crate::fault::FeatureFault;
 use log_actions::{Feature, Protocol};
-use row_base::{Text, Texts};
+use row_base::{Items, Text};
 
 fn is_supported(feature: &str) -> bool
     ensures { result ≡ spec.is_supported feature.now }
@@ -29,7 +29,7 @@ fn check_names(names: &[Text]) -> Result<(), FeatureFault>
     }
 }
 
-fn check_features(features: &Option<Texts>) -> Result<(), FeatureFault>
+fn check_features(features: &Option<Items<Text>>) -> Result<(), FeatureFault>
     ensures { spec.Finds result (spec.other_feature features.now) }
 {
     match features {

@@ -3,12 +3,12 @@ ghost use Rattle.std.specs.Prelude.{◌≡◌, ℕ, List, [], option_copied, unw
 ghost use Rattle.table_rules.specs.Faults.{Judges};
 ghost use Rattle.table_rules.specs.Properties as spec;
 
-use crate::decimal::decimal_number;
 use crate::fault::FeatureFault;
 use crate::interval::read_interval;
 use json_lines::{Entry, TextMap};
 use log_actions::{Feature, MetaData};
 use row_base::Text;
+use row_base::numbers::read_decimal;
 
 /// The milliseconds of a week.
 const WEEK: u64 = 604_800_000;
@@ -52,7 +52,7 @@ fn level_in(text: &Text) -> Option<Level>
 fn checkpoint_interval_in(text: &Text) -> Option<u64>
     ensures { result ≡ spec.checkpoint_interval_in text.now }
 {
-    match decimal_number(text.as_str()) {
+    match read_decimal(text.as_str().as_bytes()) {
         Some(number) if 0 < number && number <= MAX_CHECKPOINT_INTERVAL => Some(number),
         _ => None,
     }

@@ -5,7 +5,7 @@ use Rattle.std.proofs.lemmas.List.{append-nil, length-append, length-drop, lengt
 use Rattle.thrift_compact.specs.declared.fault.ThriftFault.{ThriftFault}
 use Rattle.thrift_compact.specs.declared.fault.ThriftFault.TheVariants as faults
 use Rattle.thrift_compact.specs.Varints.{Varint, number, ends, long, continued, varint, unzigzag}
-use Rattle.thrift_compact.specs.Places.{◌>>=◌}
+use Rattle.row_base.specs.Faults.{◌>>=◌}
 use Rattle.thrift_compact.specs.Values.{varint_here, varint_at, number_at}
 use Rattle.thrift_compact.specs.Laws.{GoOn, NumberFault, cut, many, wide}
 use Rattle.thrift_compact.proofs.Standing.{front_of, stands_make}
@@ -64,7 +64,7 @@ long_only (suc most) (byte ∷ text) rest goes all = rw (le-ltb byte 128 goes.0,
 pub fault_inside : {A : Type 0} (d e : ThriftFault) → ◌≡◌ {A = Result A ThriftFault} (Err d) (Err e) → d ≡ e
 fault_inside d e h = cc
 
-bind_fault : {A B : Type 0} (r : Result A ThriftFault) (f : A → B) (e : ThriftFault) → (r >>= λ x. Ok (f x)) ≡ Err e → r ≡ Err e
+pub bind_fault : {A B : Type 0} (r : Result A ThriftFault) (f : A → B) (e : ThriftFault) → (r >>= λ x. Ok (f x)) ≡ Err e → r ≡ Err e
 bind_fault (Ok x) f e h = absurd cc
 bind_fault (Err d) f e h = ap Err (fault_inside d e h)
 

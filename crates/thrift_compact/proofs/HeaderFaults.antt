@@ -8,7 +8,7 @@ use Rattle.thrift_compact.specs.declared.wire.Wire.{Wire}
 use Rattle.thrift_compact.specs.declared.wire.Field.{Field}
 use Rattle.thrift_compact.specs.declared.wire.Field.TheVariants as fields
 use Rattle.thrift_compact.specs.declared.wire.ListHead.{ListHead}
-use Rattle.thrift_compact.specs.Places.{◌>>=◌}
+use Rattle.row_base.specs.Faults.{◌>>=◌}
 use Rattle.thrift_compact.specs.Values.{varint_at, size_at, number_at, behind, binary_at, byte_at, wire_of, known, fits_16, field_here, field_at, list_at}
 use Rattle.thrift_compact.specs.Writing.{code_of}
 use Rattle.thrift_compact.specs.Laws.{Stands, SizeFault, varint, large, BinaryFault, length_fault, content, IsUnknown, ListFault, FieldFault, past, unknown, sized, numbered, large_id, large_sum}
@@ -20,21 +20,21 @@ use Rattle.thrift_compact.proofs.FaultLaws.{fault_inside, narrow_fault, varint_f
 -- ---- steps
 
 -- a chain fails at its first call, or behind it
-cases_fault : {A B : Type 0} (r : Result A ThriftFault) (f : A → Result B ThriftFault) (e : ThriftFault) → (r >>= f) ≡ Err e
+pub cases_fault : {A B : Type 0} (r : Result A ThriftFault) (f : A → Result B ThriftFault) (e : ThriftFault) → (r >>= f) ≡ Err e
     → (r ≡ Err e) ⊎ ((x : A) × (r ≡ Ok x) × (f x ≡ Err e))
 cases_fault (Ok x) f e h = inr (x, refl, h)
 cases_fault (Err d) f e h = inl (ap Err (fault_inside d e h))
 
-fault_from : {A B : Type 0} (r : Result A ThriftFault) (f : A → Result B ThriftFault) (e : ThriftFault) → r ≡ Err e → (r >>= f) ≡ Err e
+pub fault_from : {A B : Type 0} (r : Result A ThriftFault) (f : A → Result B ThriftFault) (e : ThriftFault) → r ≡ Err e → (r >>= f) ≡ Err e
 fault_from r f e h = rw h refl
 
-short_fault : {A : Type 0} (b : Bool) (d e : ThriftFault) (x : A) → cond b (Err d) (Ok x) ≡ Err e → (b ≡ true) × (d ≡ e)
+pub short_fault : {A : Type 0} (b : Bool) (d e : ThriftFault) (x : A) → cond b (Err d) (Ok x) ≡ Err e → (b ≡ true) × (d ≡ e)
 short_fault true d e x h = (refl, fault_inside d e h)
 short_fault false d e x h = absurd cc
 
 -- ---- sizes and bytes
 
-size_fault_found : (bytes : List ℕ) (at : ℕ) (fault : ThriftFault) → at ≤ length bytes → size_at bytes at ≡ Err fault → SizeFault bytes at fault
+pub size_fault_found : (bytes : List ℕ) (at : ℕ) (fault : ThriftFault) → at ≤ length bytes → size_at bytes at ≡ Err fault → SizeFault bytes at fault
 unfolding size_at
 size_fault_found bytes at fault within e =
     elim (cases_fault (varint_at bytes at) (λ n. cond (ltb n.0 (2 ^ 32)) (Ok n) (Err (faults.Long at))) fault e) [
@@ -45,7 +45,7 @@ size_fault_found bytes at fault within e =
           subst (λ f. SizeFault bytes at f) q.1 (large found.0 p.0.1 p.0.0 found.1 (ltb-false p.0.0 (2 ^ 32) q.0) found.2)
     ]
 
-size_fault_only : (bytes : List ℕ) (at : ℕ) (fault : ThriftFault) → SizeFault bytes at fault → size_at bytes at ≡ Err fault
+pub size_fault_only : (bytes : List ℕ) (at : ℕ) (fault : ThriftFault) → SizeFault bytes at fault → size_at bytes at ≡ Err fault
 unfolding size_at
 size_fault_only bytes at fault (varint h) =
     fault_from (varint_at bytes at) (λ n. cond (ltb n.0 (2 ^ 32)) (Ok n) (Err (faults.Long at))) fault (varint_fault_only bytes at fault h)
@@ -81,7 +81,7 @@ binary_fault_only bytes at fault (content text from size spelled s few) =
 
 -- ---- single bytes and wire types
 
-byte_fault_found : (bytes : List ℕ) (at : ℕ) (fault : ThriftFault) → at ≤ length bytes → byte_at bytes at ≡ Err fault
+pub byte_fault_found : (bytes : List ℕ) (at : ℕ) (fault : ThriftFault) → at ≤ length bytes → byte_at bytes at ≡ Err fault
     → (at ≡ length bytes) × (faults.Short (length bytes) ≡ fault)
 unfolding byte_at
 byte_fault_found bytes at fault within e = elim (cases_fault (behind bytes at 1) (λ to. Ok (get_or bytes at 0, to)) fault e) [
@@ -95,11 +95,11 @@ byte_fault_found bytes at fault within e = elim (cases_fault (behind bytes at 1)
     never : {A : Type 0} {y : A} → ◌≡◌ {A = Result A ThriftFault} (Ok y) (Err fault) → ⊥
     never h = absurd cc
 
-byte_past : (bytes : List ℕ) (at : ℕ) → at ≡ length bytes → byte_at bytes at ≡ Err (faults.Short (length bytes))
+pub byte_past : (bytes : List ℕ) (at : ℕ) → at ≡ length bytes → byte_at bytes at ≡ Err (faults.Short (length bytes))
 unfolding byte_at
 byte_past bytes at e = rw (lt-ltb (length bytes) (at + 1) (omega arith)) refl
 
-known_fault_found : (code at : ℕ) (fault : ThriftFault) → known (wire_of code) at ≡ Err fault → IsUnknown code × (faults.Wire at ≡ fault)
+pub known_fault_found : (code at : ℕ) (fault : ThriftFault) → known (wire_of code) at ≡ Err fault → IsUnknown code × (faults.Wire at ≡ fault)
 known_fault_found code at fault e = inside (wire_of code) refl e
   where
     apart : (wire : Wire) → ◌≡◌ {A = Option Wire} (Some wire) None → ⊥
@@ -109,7 +109,7 @@ known_fault_found code at fault e = inside (wire_of code) refl e
     inside (Some w) is h = absurd cc
     inside None is h = (λ wire same. absurd (apart wire (sym (ap wire_of same ∙ wire_again wire) ∙ is)), fault_inside (faults.Wire at) fault h)
 
-known_past : (code at : ℕ) → IsUnknown code → known (wire_of code) at ≡ Err (faults.Wire at)
+pub known_past : (code at : ℕ) → IsUnknown code → known (wire_of code) at ≡ Err (faults.Wire at)
 known_past code at none = inside (wire_of code) refl
   where
     inside : (o : Option Wire) → wire_of code ≡ o → known o at ≡ Err (faults.Wire at)

@@ -9,7 +9,7 @@ use Rattle.thrift_compact.specs.declared.wire.Wire.TheVariants as wires
 use Rattle.thrift_compact.specs.declared.wire.Field.{Field}
 use Rattle.thrift_compact.specs.declared.wire.Field.TheVariants as fields
 use Rattle.thrift_compact.specs.declared.wire.ListHead.{ListHead}
-use Rattle.thrift_compact.specs.Places.{◌>>=◌}
+use Rattle.row_base.specs.Faults.{◌>>=◌}
 use Rattle.thrift_compact.specs.Values.{size_at, number_at, byte_at, wire_of, known, fits_16, field_here, field_at, list_at}
 use Rattle.thrift_compact.specs.Writing.{code_of}
 use Rattle.thrift_compact.specs.Spelled.{SpellsSize, SpellsList, short, long, SpellsNext, SpellsField}

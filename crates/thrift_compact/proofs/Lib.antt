@@ -8,3 +8,4 @@ pub mod WritingLaws
 pub mod PlainLemmas
 pub mod FaultLaws
 pub mod HeaderFaults
+pub mod SkipFaultLaws

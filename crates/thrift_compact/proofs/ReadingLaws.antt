@@ -5,7 +5,7 @@ use Rattle.std.proofs.lemmas.Bool.{cases_lt, cases_eq, lt-ltb, le-ltb, ltb-true,
 use Rattle.std.proofs.lemmas.List.{take_at}
 use Rattle.thrift_compact.specs.declared.fault.ThriftFault.TheVariants as faults
 use Rattle.thrift_compact.specs.Varints.{Varint, number, ends, long, continued, varint, zigzag, unzigzag}
-use Rattle.thrift_compact.specs.Places.{◌>>=◌}
+use Rattle.row_base.specs.Faults.{◌>>=◌}
 use Rattle.thrift_compact.specs.Values.{varint_here, varint_at, number_at, size_at, behind, binary_at}
 use Rattle.thrift_compact.specs.Spelled.{IsVarint, SpellsVarint, SpellsNumber, SpellsSize, SpellsBinary}
 use Rattle.thrift_compact.specs.Laws.{Stands}

@@ -5,7 +5,7 @@ use Rattle.thrift_compact.specs.declared.fault.ThriftFault.{ThriftFault}
 use Rattle.thrift_compact.specs.declared.fault.ThriftFault.TheVariants as faults
 use Rattle.thrift_compact.specs.declared.wire.Wire.{Wire}
 use Rattle.thrift_compact.specs.declared.wire.Field.{Field}
-use Rattle.thrift_compact.specs.Places.{◌>>=◌}
+use Rattle.row_base.specs.Faults.{◌>>=◌}
 use Rattle.thrift_compact.specs.declared.wire.Wire.TheVariants as wires
 use Rattle.thrift_compact.specs.declared.wire.ListHead.{ListHead}
 use Rattle.thrift_compact.specs.Values.{field_at, list_at, byte_at, known, wire_of}

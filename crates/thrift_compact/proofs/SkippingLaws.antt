@@ -9,7 +9,7 @@ use Rattle.thrift_compact.specs.declared.wire.Wire.{Wire}
 use Rattle.thrift_compact.specs.declared.wire.Wire.TheVariants as wires
 use Rattle.thrift_compact.specs.declared.wire.Field.{Field}
 use Rattle.thrift_compact.specs.declared.wire.Field.TheVariants as fields
-use Rattle.thrift_compact.specs.Places.{◌>>=◌}
+use Rattle.row_base.specs.Faults.{◌>>=◌}
 use Rattle.thrift_compact.specs.Values.{varint_at, size_at, binary_at, byte_at, behind, wire_of, known, field_at, list_at}
 use Rattle.thrift_compact.specs.Skipped.{each_end, field_end, fields_end, is_container, plain_end, list_end, pairs_end, map_end, container_end, value_end}
 use Rattle.thrift_compact.specs.Writing.{code_of}
@@ -154,7 +154,7 @@ elements_taken bytes element spells takes at end text h s =
 
 -- ---- maps
 
-pair_found : (bytes : List ℕ) (key value : ℕ → Result ℕ ThriftFault) (first second : List ℕ → Type 0) → Finds bytes key first → Finds bytes value second
+pub pair_found : (bytes : List ℕ) (key value : ℕ → Result ℕ ThriftFault) (first second : List ℕ → Type 0) → Finds bytes key first → Finds bytes value second
     → Finds bytes (λ from. key from >>= value) (SpellsPair first second)
 pair_found bytes key value first second keys values at end within e =
     let p = bind_ok (key at) value end e in
@@ -162,7 +162,7 @@ pair_found bytes key value first second keys values at end within e =
     let v = values p.0 end (size_of bytes at k.0 p.0 k.2).1 p.2 in
     (k.0 ++ v.0, (k.0, v.0, k.1, v.1, refl), stands_join bytes at p.0 end k.0 v.0 k.2 v.2)
 
-pair_taken : (bytes : List ℕ) (key value : ℕ → Result ℕ ThriftFault) (first second : List ℕ → Type 0) → Takes bytes key first → Takes bytes value second
+pub pair_taken : (bytes : List ℕ) (key value : ℕ → Result ℕ ThriftFault) (first second : List ℕ → Type 0) → Takes bytes key first → Takes bytes value second
     → Takes bytes (λ from. key from >>= value) (SpellsPair first second)
 pair_taken bytes key value first second keys values at end text h s =
     let from = at + length h.0 in
@@ -259,7 +259,7 @@ fields_found bytes value spells finds (suc most) last at end within e =
     field_end_found bytes value spells (fields_end value bytes most) finds (λ id. fields_found bytes value spells finds most id)
     last head.0 p.0.0 at p.0.1 end head.1 head.2 p.2
 
-header_some : (last id : ℤ) (wire : Wire) (text : List ℕ) → SpellsNext last id wire text → 0 < length text
+pub header_some : (last id : ℤ) (wire : Wire) (text : List ℕ) → SpellsNext last id wire text → 0 < length text
 header_some last id wire text (short byte typed above sum) = omega arith
 header_some last id wire text (long byte number typed spelled) = omega arith
 

@@ -4,7 +4,7 @@ use Rattle.std.proofs.lemmas.Bool.{ltb-false, le-ltb}
 use Rattle.std.proofs.lemmas.List.{append_assoc, length-append, take-append-drop, length-take-le, length-drop, drop_at, drop-drop, drop_more, get_or-append-add}
 use Rattle.thrift_compact.specs.declared.fault.ThriftFault.{ThriftFault}
 use Rattle.thrift_compact.specs.declared.fault.ThriftFault.TheVariants as faults
-use Rattle.thrift_compact.specs.Places.{◌>>=◌}
+use Rattle.row_base.specs.Faults.{◌>>=◌}
 use Rattle.thrift_compact.specs.Values.{behind, byte_at}
 use Rattle.thrift_compact.specs.Laws.{Stands}
 

@@ -23,6 +23,7 @@ abbrev pub ReadsExactly : {A : Type 0} → List ℕ → ℕ → Result (A × ℕ
 ReadsExactly {A} bytes at read spells =
     (value : A) (end : ℕ) → (read ≡ Ok (value, end)) ↔ ((text : List ℕ) × spells text value × Stands bytes at text end)
 
+-- a number is read exactly where one stands
 abbrev pub NumbersReadExactly : Type 0
 NumbersReadExactly = (bytes : List ℕ) (at : ℕ) → at ≤ length bytes → ReadsExactly bytes at (number_at bytes at) SpellsNumber
 
@@ -38,6 +39,7 @@ pub data NumberFault (bytes : List ℕ) (at : ℕ) : ThriftFault → Type 0 wher
   wide : (text : List ℕ) (end number : ℕ) → IsVarint text number → length text ≤ 10 → 2 ^ 64 ≤ number → Stands bytes at text end
       → NumberFault bytes at (faults.Long at)
 
+-- reading a number fails exactly where none stands
 abbrev pub NumbersFailExactly : Type 0
 NumbersFailExactly = (bytes : List ℕ) (at : ℕ) (fault : ThriftFault) → at ≤ length bytes → (number_at bytes at ≡ Err fault) ↔ NumberFault bytes at fault
 
@@ -75,22 +77,28 @@ pub data FieldFault (bytes : List ℕ) (last : ℤ) (at : ℕ) : ThriftFault →
   large_sum : (byte from : ℕ) (wire : Wire) → Stands bytes at (byte ∷ []) from → byte % 16 ≡ code_of wire → 16 ≤ byte
       → fits_16 (last +ℤ pos (byte / 16)) ≡ false → FieldFault bytes last at (faults.Long at)
 
+-- reading bytes fails exactly where none stand behind their length
 abbrev pub BinariesFailExactly : Type 0
 BinariesFailExactly = (bytes : List ℕ) (at : ℕ) (fault : ThriftFault) → at ≤ length bytes → (binary_at bytes at ≡ Err fault) ↔ BinaryFault bytes at fault
 
+-- reading the header of a list fails exactly where none stands
 abbrev pub ListsFailExactly : Type 0
 ListsFailExactly = (bytes : List ℕ) (at : ℕ) (fault : ThriftFault) → at ≤ length bytes → (list_at bytes at ≡ Err fault) ↔ ListFault bytes at fault
 
+-- reading the header of a field fails exactly where none stands
 abbrev pub FieldsFailExactly : Type 0
 FieldsFailExactly = (bytes : List ℕ) (last : ℤ) (at : ℕ) (fault : ThriftFault) → at ≤ length bytes
     → (field_at bytes last at ≡ Err fault) ↔ FieldFault bytes last at fault
 
+-- bytes are read exactly where they stand behind their length
 abbrev pub BinariesReadExactly : Type 0
 BinariesReadExactly = (bytes : List ℕ) (at : ℕ) → at ≤ length bytes → ReadsExactly bytes at (binary_at bytes at) SpellsBinary
 
+-- the header of a list is read exactly where it stands
 abbrev pub ListsReadExactly : Type 0
 ListsReadExactly = (bytes : List ℕ) (at : ℕ) → at ≤ length bytes → ReadsExactly bytes at (list_at bytes at) (λ text head. SpellsList head text)
 
+-- the header of a field is read exactly where it stands
 abbrev pub FieldsReadExactly : Type 0
 FieldsReadExactly = (bytes : List ℕ) (last : ℤ) (at : ℕ) → at ≤ length bytes → ReadsExactly bytes at (field_at bytes last at) (SpellsField last)
 
@@ -103,19 +111,24 @@ ValuesSkipExactly = (bytes : List ℕ) (wire : Wire) (at : ℕ) → at ≤ lengt
 abbrev pub ReadsBack : {A : Type 0} → (List ℕ → ℕ → Result (A × ℕ) ThriftFault) → List ℕ → A → Type 0
 ReadsBack read text value = (front rest : List ℕ) → read (front ++ (text ++ rest)) (length front) ≡ Ok (value, length front + length text)
 
+-- a number of 64 bits reads back
 abbrev pub NumbersReadBack : Type 0
 NumbersReadBack = (number : ℤ) → zigzag number < 2 ^ 64 → ReadsBack number_at (number_bytes number) number
 
+-- fewer than 2^32 bytes read back
 abbrev pub BinariesReadBack : Type 0
 BinariesReadBack = (content : List ℕ) → length content < 2 ^ 32 → ReadsBack binary_at (binary_bytes content) content
 
+-- the header of a list of fewer than 2^32 elements reads back
 abbrev pub ListsReadBack : Type 0
 ListsReadBack = (wire : Wire) (count : ℕ) → count < 2 ^ 32
     → ReadsBack list_at (list_bytes wire count) (record { wire = wire; count = count })
 
+-- the header of a field of an id of 16 bits reads back
 abbrev pub FieldsReadBack : Type 0
 FieldsReadBack = (last id : ℤ) (wire : Wire) → fits_16 id ≡ true
     → ReadsBack (λ bytes at. field_at bytes last at) (field_bytes last id wire) (fields.Next id wire)
 
+-- a stop reads back, whatever field came before it
 abbrev pub StopsReadBack : Type 0
 StopsReadBack = (last : ℤ) → ReadsBack (λ bytes at. field_at bytes last at) (0 ∷ []) fields.Stop

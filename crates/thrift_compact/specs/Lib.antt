@@ -5,3 +5,4 @@ pub mod Writing
 pub mod Skipped
 pub mod Spelled
 pub mod Laws
+pub mod SkipFaults

@@ -7,11 +7,6 @@ pub record Place : Type 0 where
   pub bytes : List ℕ
   pub at : ℕ
 
-infixl 10 ◌>>=◌
-abbrev pub ◌>>=◌ : {A B : Type 0} → Result A ThriftFault → (A → Result B ThriftFault) → Result B ThriftFault
-(Ok x) >>= f = f x
-(Err e) >>= f = Err e
-
 -- What a call answered, seen by `view`, is what reading gives, a value and the place behind it, and the place moves
 -- there; a fault is the one that reading gives, and the place stays.
 abbrev pub Moves : {X Y : Type 0} → (X → Y) → Place → Place → Result X ThriftFault → Result (Y × ℕ) ThriftFault → Type 0

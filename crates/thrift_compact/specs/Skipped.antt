@@ -6,7 +6,7 @@ use Rattle.thrift_compact.specs.declared.wire.Wire.{Wire}
 use Rattle.thrift_compact.specs.declared.wire.Wire.TheVariants as wires
 use Rattle.thrift_compact.specs.declared.wire.Field.{Field}
 use Rattle.thrift_compact.specs.declared.wire.Field.TheVariants as fields
-use Rattle.thrift_compact.specs.Places.{◌>>=◌}
+use Rattle.row_base.specs.Faults.{◌>>=◌}
 use Rattle.thrift_compact.specs.Values.{varint_at, size_at, binary_at, byte_at, behind, wire_of, known, field_at, list_at}
 
 -- so many values one behind the other
@@ -64,6 +64,7 @@ pairs_end element bytes size at = byte_at bytes at >>= λ types.
     known (wire_of (types.0 / 16)) at >>= λ key. known (wire_of (types.0 % 16)) at >>= λ value.
     each_end (λ from. element key from >>= element value) size types.1
 
+-- the pairs of a map behind its size; a map of no pairs is its size alone
 abbrev pub map_end : (Wire → ℕ → Result ℕ ThriftFault) → List ℕ → ℕ → Result ℕ ThriftFault
 map_end element bytes at = size_at bytes at >>= λ size. if size.0 == 0 then Ok size.1 else pairs_end element bytes size.0 size.1
 

@@ -50,6 +50,7 @@ pub data SpellsNext (last id : ℤ) (wire : Wire) : List ℕ → Type 0 where
   short : (byte : ℕ) → byte % 16 ≡ code_of wire → 16 ≤ byte → id ≡ last +ℤ pos (byte / 16) → SpellsNext last id wire (byte ∷ [])
   long : (byte : ℕ) (number : List ℕ) → byte ≡ code_of wire → SpellsNumber number id → SpellsNext last id wire (byte ∷ number)
 
+-- a stop, or the header of a field with its id and wire type
 abbrev pub SpellsField : ℤ → List ℕ → Field → Type 0
 SpellsField last text fields.Stop = text ≡ 0 ∷ []
 SpellsField last text (fields.Next id wire) = SpellsNext last id wire text × (fits_16 id ≡ true)

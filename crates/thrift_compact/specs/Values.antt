@@ -9,7 +9,7 @@ use Rattle.thrift_compact.specs.declared.wire.Field.{Field}
 use Rattle.thrift_compact.specs.declared.wire.Field.TheVariants as fields
 use Rattle.thrift_compact.specs.declared.wire.ListHead.{ListHead}
 use Rattle.thrift_compact.specs.Varints.{Varint, number, ends, long, varint, unzigzag}
-use Rattle.thrift_compact.specs.Places.{◌>>=◌}
+use Rattle.row_base.specs.Faults.{◌>>=◌}
 
 -- a varint of at most ten bytes and 64 bits
 abbrev pub varint_here : List ℕ → ℕ → Varint → Result (ℕ × ℕ) ThriftFault
@@ -17,6 +17,7 @@ varint_here bytes at (number value len) = if nat_lt value (2 ^ 64) then Ok (valu
 varint_here bytes at ends = Err (faults.Short (length bytes))
 varint_here bytes at long = Err (faults.Long at)
 
+-- the varint at a place
 unfoldable pub varint_at : List ℕ → ℕ → Result (ℕ × ℕ) ThriftFault
 varint_at bytes at = varint_here bytes at (varint 10 (drop at bytes))
 
@@ -54,6 +55,7 @@ abbrev pub known : Option Wire → ℕ → Result Wire ThriftFault
 known (Some wire) at = Ok wire
 known None at = Err (faults.Wire at)
 
+-- a number of 16 bits
 abbrev pub fits_16 : ℤ → Bool
 fits_16 (pos n) = nat_lt n (2 ^ 15)
 fits_16 (negsuc n) = nat_lt n (2 ^ 15)

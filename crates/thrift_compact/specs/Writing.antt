@@ -46,5 +46,6 @@ abbrev pub delta_bytes : ℤ → ℤ → Wire → List ℕ
 delta_bytes (pos delta) id wire = if nat_lt 0 delta && nat_lt delta 16 then (16 * delta + code_of wire) ∷ [] else code_of wire ∷ number_bytes id
 delta_bytes (negsuc delta) id wire = code_of wire ∷ number_bytes id
 
+-- the header of a field behind one of the id `last`
 abbrev pub field_bytes : ℤ → ℤ → Wire → List ℕ
 field_bytes last id wire = delta_bytes (id -ℤ last) id wire

@@ -4,8 +4,8 @@ ghost use Rattle.std.specs.Prelude.{◌≡◌, List, ℕ, [], ◌∷◌, ◌++�
 ghost use Rattle.thrift_compact.specs.Varints.{zigzag};
 ghost use Rattle.thrift_compact.specs.Writing.{code_of, varint_of, varint_bytes, number_bytes, binary_bytes, list_bytes, delta_bytes, field_bytes};
 
-use crate::fault::NoMemory;
 use crate::wire::Wire;
+use row_base::NoMemory;
 use std::alloc::{AllocError, Global};
 use std::marker::Model;
 

@@ -1,6 +1,5 @@
-//! What can be wrong with the bytes, and the want of memory.
+//! What can be wrong with the bytes.
 
-use std::alloc::{AllocError, AllocFailed};
 use thiserror::Error;
 
 /// What can be wrong with the bytes; the first fault met in reading.
@@ -30,21 +29,4 @@ pub enum ThriftFault {
         /// The place of the first byte of the value that is too deep.
         at: usize,
     },
-}
-
-/// Memory ran out.
-#[derive(Clone, Copy, Debug, Drop, PartialEq, Eq, Error)]
-#[error("out of memory")]
-pub struct NoMemory;
-
-impl From<AllocError> for NoMemory {
-    fn from(_refused: AllocError) -> NoMemory {
-        NoMemory
-    }
-}
-
-impl<T: Drop> From<AllocFailed<T>> for NoMemory {
-    fn from(_refused: AllocFailed<T>) -> NoMemory {
-        NoMemory
-    }
 }

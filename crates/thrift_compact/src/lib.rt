@@ -12,10 +12,7 @@ mod wire;
 
 pub use appender::Appender;
 pub use cursor::Cursor;
-pub use fault::{NoMemory, ThriftFault};
+pub use fault::ThriftFault;
 pub use laws::{reading_is_exact, written_is_read};
 pub use plain::plain_number;
 pub use wire::{Field, ListHead, Wire};
-
-#[cfg(test)]
-mod tests;

@@ -6,14 +6,14 @@ pub returns : goal.returns
 unfolding members_of
 returns c =
     rw (
-      c.in_ok-put_text-2.ensures,
-      c.in_ok-put_texts.ensures,
-      c.in_ok-put_optional_text-2.ensures,
-      c.in_ok-put_text.ensures,
-      c.in_ok-put_format.ensures,
-      c.in_ok-put_optional_text.ensures,
-      c.in_ok-put_optional_integer.ensures,
-      c.in_ok-put_optional_text_map.ensures,
+      c.in_ok-put_member-4.ensures,
+      c.in_ok-put_member-3.ensures,
+      c.in_ok-put_optional-4.ensures,
+      c.in_ok-put_member-2.ensures,
+      c.in_ok-put_member.ensures,
+      c.in_ok-put_optional-3.ensures,
+      c.in_ok-put_optional-2.ensures,
+      c.in_ok-put_optional.ensures,
       c.new-members.ensures.empty,
     )
     refl

@@ -6,10 +6,10 @@ pub returns : goal.returns
 unfolding members_of
 returns c =
     rw (
-      c.in_ok-put_optional_texts-2.ensures,
-      c.in_ok-put_optional_texts.ensures,
-      c.in_ok-put_integer-2.ensures,
-      c.in_ok-put_integer.ensures,
+      c.in_ok-put_optional-2.ensures,
+      c.in_ok-put_optional.ensures,
+      c.in_ok-put_member-2.ensures,
+      c.in_ok-put_member.ensures,
       c.new-members.ensures.empty,
     )
     refl

@@ -6,13 +6,13 @@ pub returns : goal.returns
 unfolding members_of
 returns c =
     rw (
-      c.in_ok-put_optional_text_map.ensures,
-      c.in_ok-put_optional_integer.ensures,
-      c.in_ok-put_text.ensures,
-      c.in_ok-put_optional_partition_map.ensures,
-      c.in_ok-put_optional_flag.ensures,
-      c.in_ok-put_integer.ensures,
-      c.in_ok-put_flag.ensures,
+      c.in_ok-put_optional-4.ensures,
+      c.in_ok-put_optional-3.ensures,
+      c.in_ok-put_member-3.ensures,
+      c.in_ok-put_optional-2.ensures,
+      c.in_ok-put_optional.ensures,
+      c.in_ok-put_member-2.ensures,
+      c.in_ok-put_member.ensures,
       c.new-members.ensures.empty,
     )
     refl

@@ -1,6 +1,6 @@
 -- The data so far, before those of the rest, are those of the whole.
 use Rattle.std.proofs.Common.{◌≡◌, ◌++◌, drop, Ok}
-use Rattle.schema_text.specs.Faults.{◌>>=◌}
+use Rattle.row_base.specs.Faults.{◌>>=◌}
 use Rattle.schema_text.specs.Partition.{cells}
 use Rattle.schema_text.proofs.partition.row_of.Given as goal
 

@@ -1,7 +1,10 @@
--- The columns so far are those of the fields so far.
-use Rattle.std.proofs.Common.{◌≡◌, take, map}
-use Rattle.schema_text.specs.Schema.{column_of}
+-- The columns so far, with the fields that are left, are those of all fields; and they are 64 at most.
+use Rattle.std.proofs.Common.{◌≡◌, ◌≤◌, [], length, drop}
+use Rattle.serde_json.specs.View.{items_view}
+use Rattle.schema_text.specs.Schema.{columns_from}
 use Rattle.schema_text.proofs.schema.columns_of.Given as goal
 
-abbrev pub invariant-loop-field : goal.invariant-loop-field
-invariant-loop-field l = l.columns.items ≡ map column_of (take l.field-index l.fields)
+abbrev pub invariant-loop-value : goal.invariant-loop-value
+invariant-loop-value l =
+    (columns_from l.columns.items (items_view (drop l.value-index l.fields)) ≡ columns_from [] (items_view l.fields))
+    × (length l.columns.items ≤ 64)

@@ -3,6 +3,7 @@ use Rattle.thrift_compact.proofs.HeaderLaws.{list_found, list_only, field_found,
 use Rattle.thrift_compact.proofs.SkippingLaws.{skipped_found, skipped_taken}
 use Rattle.thrift_compact.proofs.FaultLaws.{number_fault_found, number_fault_only}
 use Rattle.thrift_compact.proofs.HeaderFaults.{binary_fault_found, binary_fault_only, list_fault_found, list_fault_only, field_fault_found, field_fault_only}
+use Rattle.thrift_compact.proofs.SkipFaultLaws.{skip_fault_found, skip_fault_only}
 use Rattle.thrift_compact.proofs.laws.reading_is_exact.Goals as goal
 
 pub returns-clause-numbers : goal.returns-clause-numbers
@@ -31,3 +32,6 @@ returns-clause-lists_fail c = λ bytes at fault within. (list_fault_found bytes 
 
 pub returns-clause-fields_fail : goal.returns-clause-fields_fail
 returns-clause-fields_fail c = λ bytes last at fault within. (field_fault_found bytes last at fault within, field_fault_only bytes last at fault)
+
+pub returns-clause-values_fail : goal.returns-clause-values_fail
+returns-clause-values_fail c = λ bytes wire at fault within. (skip_fault_found 16 bytes wire at fault within, skip_fault_only 16 bytes wire at fault within)

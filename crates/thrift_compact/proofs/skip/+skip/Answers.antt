@@ -6,7 +6,7 @@ use Rattle.std.specs.Int.{w16}
 use mir.Val.{SFits, to_z}
 use Rattle.std.proofs.lemmas.Int.{to_z-of_z}
 use Rattle.thrift_compact.specs.declared.wire.Field.TheVariants as fields
-use Rattle.thrift_compact.specs.Places.{◌>>=◌}
+use Rattle.row_base.specs.Faults.{◌>>=◌}
 use Rattle.thrift_compact.specs.Skipped.{value_end, each_end, fields_end, container_end}
 use Rattle.thrift_compact.proofs.SkipLemmas.{value_end-plain, value_end-deep, value_end-inner, each_step, each_fault, each_done, fields_fault, fields_more, list_is, pairs_is, value_fault, value_next, pair_fault_first, pair_second, container_list}
 use Rattle.thrift_compact.proofs.skip.+skip.Goals as goal

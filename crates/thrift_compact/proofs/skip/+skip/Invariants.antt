@@ -1,6 +1,6 @@
 use Rattle.std.proofs.Common.{◌≡◌, ℕ, ◌+◌, ◌<◌, ◌≤◌, length, false, true, suc, ◌-◌, ◌*◌}
 use Rattle.std.specs.Prelude.{pos}
-use Rattle.thrift_compact.specs.Places.{◌>>=◌}
+use Rattle.row_base.specs.Faults.{◌>>=◌}
 use Rattle.thrift_compact.specs.Skipped.{value_end, each_end, fields_end}
 use Rattle.thrift_compact.proofs.skip.+skip.Given as goal
 

@@ -1,0 +1,155 @@
+#!/usr/bin/env python3
+"""What the gate costs: the processor seconds of `rt ci` by crate, for its proof, its tests and its must-fail edits.
+
+Usage, at the top of the repository: bench/gate.py [WORD..] 2>LOG; `rt ci` is run with these words (names of crates, or
+--anew), and what it writes goes to standard error. Once it has ended, or was interrupted, the table stands on standard
+output, in Markdown, and this script ends with its status.
+
+Four times a second the gate's checks are read from /proc: the time of each process and of those that it started. The
+crate of a check is its `--crate-name`, its kind is told by its words (tests have `--test`) and by its folder (an edit is
+tried on a copy of the crate in a folder `rt-edit-..`). What a check takes after the last look at it is not in its crate's
+row. It is in the last row with what else the gate took (rt itself, links, runs of tests and programs), since the sum is the
+system's own. What the gate kept from an earlier run costs nothing now: the lines below the table name such crates.
+"""
+import collections
+import os
+import pathlib
+import resource
+import subprocess
+import sys
+import time
+
+KINDS = ("proof", "tests", "edits")
+PAUSE = 0.25
+# The most processor minutes of a new crate.
+MOST = 7
+TICKS = os.sysconf("SC_CLK_TCK")
+
+# A process: its name, when it began, and the seconds that it took with those of its children that have ended.
+Process = collections.namedtuple("Process", "name start seconds")
+
+
+def process(number):
+    """The process of this number, or None where it has ended."""
+    try:
+        text = pathlib.Path(f"/proc/{number}/stat").read_text(errors="replace")
+    except OSError:
+        return None
+    before, _, after = text.rpartition(")")
+    fields = after.split()
+    return Process(before.partition("(")[2], fields[19], sum(map(int, fields[11:15])) / TICKS)
+
+
+def children(number):
+    """The numbers of the processes that a process has started, and that have not ended."""
+    found = []
+    for tasks in pathlib.Path(f"/proc/{number}/task").glob("*/children"):
+        try:
+            found += map(int, tasks.read_text().split())
+        except OSError:
+            pass
+    return found
+
+
+def crate_and_kind(number):
+    """What a check is for, or None where it has ended or is none."""
+    try:
+        words = pathlib.Path(f"/proc/{number}/cmdline").read_text(errors="replace").split("\0")
+        folder = os.readlink(f"/proc/{number}/cwd")
+    except OSError:
+        return None
+    if "--crate-name" not in words:
+        return None
+    kind = "edits" if "/rt-edit" in folder else "tests" if "--test" in words else "proof"
+    return words[words.index("--crate-name") + 1], kind
+
+
+class Checks:
+    """The checks of one gate: what each is for, and the seconds that it had taken when it was last seen."""
+
+    def __init__(self, gate):
+        self.gate, self.labels, self.seconds = gate, {}, {}
+
+    def look(self):
+        """Looks once at all checks that run now."""
+        sums = collections.Counter()
+        # the gate and what it started, each with the check that it belongs to, if to any
+        places = [(self.gate, None)]
+        while places:
+            number, check = places.pop()
+            it = process(number)
+            if not it:
+                continue
+            if check is None and it.name == "rattle":
+                check = number, it.start
+                if check not in self.labels:
+                    self.labels[check] = crate_and_kind(number)
+            if check:
+                sums[check] += it.seconds
+            places += [(child, check) for child in children(number)]
+        self.seconds.update(sums)
+
+    def table(self):
+        """The seconds by crate and kind."""
+        rows = collections.defaultdict(collections.Counter)
+        for check, seconds in self.seconds.items():
+            if self.labels[check]:
+                crate, kind = self.labels[check]
+                rows[crate][kind] += seconds
+        return rows
+
+
+def measured(words):
+    """Runs the gate, and gives its checks and its exit status."""
+    gate = subprocess.Popen(["rt", "ci", *words], stdout=sys.stderr)
+    checks = Checks(gate.pid)
+    while gate.poll() is None:
+        try:
+            checks.look()
+            time.sleep(PAUSE)
+        except KeyboardInterrupt:
+            # it reaches the gate too
+            gate.wait()
+    return checks, gate.returncode
+
+
+def line(name, cells):
+    return f"| {name} | " + " | ".join(f"{it:.0f}" for it in cells) + " |"
+
+
+def print_table(rows, passed):
+    """Prints the rows, the crate that takes most first, and the sums. `passed` is the time of the clock, in seconds."""
+    print("| Crate | " + " | ".join(KINDS) + " | sum, in seconds |")
+    print("|---|" + "---:|" * (len(KINDS) + 1))
+    for crate, row in sorted(rows.items(), key=lambda pair: -pair[1].total()):
+        print(line(crate, [*(row[it] for it in KINDS), row.total()]))
+    sums = [sum(row[it] for row in rows.values()) for it in KINDS]
+    used = resource.getrusage(resource.RUSAGE_CHILDREN)
+    whole = used.ru_utime + used.ru_stime
+    print(line("all", [*sums, sum(sums)]))
+    print(f"| all else |  |  |  | {whole - sum(sums):.0f} |")
+    minutes = ", ".join(f"{kind} {it / 60:.0f}" for kind, it in zip(KINDS, sums))
+    print(f"\nProcessor minutes: {whole / 60:.0f} ({minutes}), in {passed / 60:.0f} minutes on {os.cpu_count()} processors.")
+
+
+def print_notes(rows):
+    """Names the crates that take too long, and those of which nothing was proved in this run."""
+    dear = [crate for crate, row in rows.items() if row.total() > 60 * MOST]
+    lines = pathlib.Path("crates.txt").read_text().splitlines()
+    names = [it.split(":")[0].split()[0] for it in lines if it.strip() and not it.startswith("#")]
+    kept = [it for it in names if not rows[it]["proof"]]
+    print(f"Over {MOST} minutes: {', '.join(sorted(dear)) or 'none'}.")
+    print(f"Not proved in this run: {', '.join(kept) or 'none'}.")
+
+
+def main(words):
+    began = time.monotonic()
+    checks, status = measured(words)
+    rows = checks.table()
+    print_table(rows, time.monotonic() - began)
+    print_notes(rows)
+    return status if status >= 0 else 1
+
+
+if __name__ == "__main__":
+    sys.exit(main(sys.argv[1:]))
