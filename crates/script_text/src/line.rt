@@ -55,14 +55,14 @@ fn columns<'a, 'b>(
 
 /// Literals with commas between them. They go into the list, which has none.
 fn literals<'a, 'b>(
-    data: Vec<Datum>,
+    values: Vec<Datum>,
     tokens: &'a [Token<'b>],
 ) -> Result<(Vec<Datum>, &'a [Token<'b>]), ParseError>
-    requires { data.items ≡ [] }
+    requires { values.items ≡ [] }
     ensures { Gives (λ x. (x.0.items, x.1.now)) result (read (listed a_literal) tokens.now) }
 {
     let (first, mut rest) = take_literal(tokens)?;
-    let mut all = data;
+    let mut all = values;
     all.push(first)?;
     while let Some(tail) = find_comma(rest) {
         let (next, after) = take_literal(tail)?;
@@ -74,16 +74,16 @@ fn literals<'a, 'b>(
 
 /// `(LITERAL, ..)`. The literals go into the list, which has none.
 fn row_at_front<'a, 'b>(
-    data: Vec<Datum>,
+    values: Vec<Datum>,
     tokens: &'a [Token<'b>],
 ) -> Result<(Vec<Datum>, &'a [Token<'b>]), ParseError>
-    requires { data.items ≡ [] }
+    requires { values.items ≡ [] }
     ensures { Gives (λ x. (x.0.items, x.1.now)) result (read row tokens.now) }
 {
     let rest = take_open(tokens)?;
-    let (data, rest) = literals(data, rest)?;
+    let (values, rest) = literals(values, rest)?;
     let rest = take_close(rest)?;
-    Ok((data, rest))
+    Ok((values, rest))
 }
 
 /// Rows with commas between them. One list takes the data of each in turn.
