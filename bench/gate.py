@@ -5,11 +5,10 @@ Usage, at the top of the repository: bench/gate.py [WORD..] 2>LOG; `rt ci` is ru
 --anew), and what it writes goes to standard error. Once it has ended, or was interrupted, the table stands on standard
 output, in Markdown, and this script ends with its status.
 
-Four times a second the gate's checks are read from /proc: the time of each process and of those that it started. The
-crate of a check is its `--crate-name`, its kind is told by its words (tests have `--test`) and by its folder (an edit is
-tried on a copy of the crate in a folder `rt-edit-..`). What a check takes after the last look at it is not in its crate's
-row. It is in the last row with what else the gate took (rt itself, links, runs of tests and programs), since the sum is the
-system's own. What the gate kept from an earlier run costs nothing now: the lines below the table name such crates.
+Four times a second the gate's checks are read from /proc, with all that they started. The crate of a check is its
+`--crate-name`; tests have `--test`, and an edit is tried on a copy of the crate in a folder `rt-edit-..`. What a check takes
+after the last look at it counts as "all else", as do rt itself, links and runs, since the whole sum is the system's own.
+What the gate kept from an earlier run costs nothing now: the lines below the table name such crates.
 """
 import collections
 import os
@@ -19,7 +18,7 @@ import subprocess
 import sys
 import time
 
-KINDS = ("proof", "tests", "edits")
+# Seconds between two looks.
 PAUSE = 0.25
 # The most processor minutes of a new crate.
 MOST = 7
@@ -89,7 +88,7 @@ class Checks:
             places += [(child, check) for child in children(number)]
         self.seconds.update(sums)
 
-    def table(self):
+    def rows(self):
         """The seconds by crate and kind."""
         rows = collections.defaultdict(collections.Counter)
         for check, seconds in self.seconds.items():
@@ -108,36 +107,31 @@ def measured(words):
             checks.look()
             time.sleep(PAUSE)
         except KeyboardInterrupt:
-            # it reaches the gate too
-            gate.wait()
+            gate.wait()  # it reaches the gate too
     return checks, gate.returncode
-
-
-def line(name, cells):
-    return f"| {name} | " + " | ".join(f"{it:.0f}" for it in cells) + " |"
 
 
 def print_table(rows, passed):
     """Prints the rows, the crate that takes most first, and the sums. `passed` is the time of the clock, in seconds."""
-    print("| Crate | " + " | ".join(KINDS) + " | sum, in seconds |")
-    print("|---|" + "---:|" * (len(KINDS) + 1))
+    print("| Crate | proof | tests | edits | sum, in seconds |")
+    print("|---|---:|---:|---:|---:|")
+    sums = collections.Counter()
     for crate, row in sorted(rows.items(), key=lambda pair: -pair[1].total()):
-        print(line(crate, [*(row[it] for it in KINDS), row.total()]))
-    sums = [sum(row[it] for row in rows.values()) for it in KINDS]
+        print(f"| {crate} | {row['proof']:.0f} | {row['tests']:.0f} | {row['edits']:.0f} | {row.total():.0f} |")
+        sums.update(row)
     used = resource.getrusage(resource.RUSAGE_CHILDREN)
     whole = used.ru_utime + used.ru_stime
-    print(line("all", [*sums, sum(sums)]))
-    print(f"| all else |  |  |  | {whole - sum(sums):.0f} |")
-    minutes = ", ".join(f"{kind} {it / 60:.0f}" for kind, it in zip(KINDS, sums))
+    print(f"| all | {sums['proof']:.0f} | {sums['tests']:.0f} | {sums['edits']:.0f} | {sums.total():.0f} |")
+    print(f"| all else |  |  |  | {whole - sums.total():.0f} |")
+    minutes = ", ".join(f"{kind} {sums[kind] / 60:.0f}" for kind in ("proof", "tests", "edits"))
     print(f"\nProcessor minutes: {whole / 60:.0f} ({minutes}), in {passed / 60:.0f} minutes on {os.cpu_count()} processors.")
 
 
 def print_notes(rows):
     """Names the crates that take too long, and those of which nothing was proved in this run."""
     dear = [crate for crate, row in rows.items() if row.total() > 60 * MOST]
-    lines = pathlib.Path("crates.txt").read_text().splitlines()
-    names = [it.split(":")[0].split()[0] for it in lines if it.strip() and not it.startswith("#")]
-    kept = [it for it in names if not rows[it]["proof"]]
+    lines = [it.split(":")[0].split() for it in open("crates.txt") if not it.startswith("#")]
+    kept = [it[0] for it in lines if it and not rows[it[0]]["proof"]]
     print(f"Over {MOST} minutes: {', '.join(sorted(dear)) or 'none'}.")
     print(f"Not proved in this run: {', '.join(kept) or 'none'}.")
 
@@ -145,7 +139,7 @@ def print_notes(rows):
 def main(words):
     began = time.monotonic()
     checks, status = measured(words)
-    rows = checks.table()
+    rows = checks.rows()
     print_table(rows, time.monotonic() - began)
     print_notes(rows)
     return status if status >= 0 else 1

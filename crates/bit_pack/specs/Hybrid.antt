@@ -84,6 +84,7 @@ pub record StopsAt (width : ℕ) (bytes : List ℕ) (count : ℕ) (Fails : List 
 abbrev pub header_values : ℕ → ℕ
 header_values number = if number % 2 == 0 then number / 2 else 8 * (number / 2)
 
+-- how many bytes follow the header that is this number
 abbrev pub header_bytes : ℕ → ℕ → ℕ
 header_bytes width number = if number % 2 == 0 then byte_width width else number / 2 * width
 
@@ -111,9 +112,11 @@ varint_of (suc most) number = if nat_lt number 128 then number ∷ [] else (numb
 abbrev pub run_of : ℕ → ℕ → ℕ → List ℕ
 run_of width copies value = varint_of 5 (2 * copies) ++ bytes_of (byte_width width) value
 
+-- a stretch of so many groups of eight
 abbrev pub stretch_of : ℕ → ℕ → List ℕ → List ℕ
 stretch_of width groups values = varint_of 5 (2 * groups + 1) ++ bytes_of (groups * width) (packed_number width values)
 
+-- equal values are written as one run, and others as one stretch
 unfoldable pub hybrid_of : ℕ → List ℕ → List ℕ
 hybrid_of width values =
     if length values == 0 then []

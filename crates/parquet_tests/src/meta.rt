@@ -60,19 +60,20 @@ fn page_head_is_read_and_written(rt: HostRuntime) -> Result<(), Fail> {
 #[test]
 fn damaged_page_heads_are_refused(rt: HostRuntime) {
     let head = &FILE[4..21];
-    assert_eq!(rt;
-        read_page_head(&head[..16], 0),
-        Err(FileFault::Thrift { at: 16 })
-    );
-    assert_eq!(rt; read_page_head(head, 17), Err(FileFault::Thrift { at: 17 }));
-    assert_eq!(rt; read_page_head(head, 18), Err(FileFault::Thrift { at: 17 }));
+    for (bytes, at, place) in [(&head[..16], 0, 16), (head, 17, 17), (head, 18, 17)] {
+        let fault = Some(FileFault::Thrift { at: place });
+        assert_eq!(rt; read_page_head(bytes, at).err(), fault);
+    }
     // a size of -1, and a number of values of -1
-    assert_eq!(rt; changed_head(9, 0x01), Err(FileFault::Page { at: 4 }));
-    assert_eq!(rt; changed_head(12, 0x01), Err(FileFault::Page { at: 4 }));
+    for place in [9, 12] {
+        let fault = Some(FileFault::Page { at: 4 });
+        assert_eq!(rt; changed_head(place, 0x01).err(), fault);
+    }
     // a size that is a text, no size, and a dictionary page without its header
-    assert_eq!(rt; changed_head(8, 0x18), Err(FileFault::Thrift { at: 8 }));
-    assert_eq!(rt; changed_head(8, 0x25), Err(FileFault::Thrift { at: 20 }));
-    assert_eq!(rt; changed_head(5, 0x04), Err(FileFault::Thrift { at: 20 }));
+    for (place, byte, at) in [(8, 0x18, 8), (8, 0x25, 20), (5, 0x04, 20)] {
+        let fault = Some(FileFault::Thrift { at });
+        assert_eq!(rt; changed_head(place, byte).err(), fault);
+    }
 }
 
 #[test]
@@ -111,29 +112,19 @@ fn damaged_footers_are_refused(rt: HostRuntime) {
     }
     assert_eq!(rt; changed(alloc, 0, 0x51).err(), Some(FileFault::Magic));
     // a length of 255, and one of 88, which is one more than the file has room for
-    assert_eq!(rt; changed(alloc, 91, 255).err(), Some(FileFault::Footer));
-    assert_eq!(rt; changed(alloc, 91, 88).err(), Some(FileFault::Footer));
-    // a number of rows that is a 32-bit number, no number of rows, a name that isn't UTF-8, and a list of texts in place
-    // of one of structs
-    assert_eq!(rt;
-        changed(alloc, 53, 0x15).err(),
-        Some(FileFault::Thrift { at: 53 })
-    );
-    assert_eq!(rt;
-        changed(alloc, 53, 0x96).err(),
-        Some(FileFault::Thrift { at: 90 })
-    );
-    assert_eq!(rt;
-        changed(alloc, 50, 0xff).err(),
-        Some(FileFault::Thrift { at: 48 })
-    );
-    assert_eq!(rt;
-        changed(alloc, 32, 0x28).err(),
-        Some(FileFault::Thrift { at: 31 })
-    );
-    // a footer that ends too soon
-    assert_eq!(rt;
-        changed(alloc, 91, 0).err(),
-        Some(FileFault::Thrift { at: 91 })
-    );
+    for length in [255, 88] {
+        assert_eq!(rt; changed(alloc, 91, length).err(), Some(FileFault::Footer));
+    }
+    // a number of rows that is a 32-bit number, no number of rows, a name that isn't UTF-8, a list of texts in place of one
+    // of structs, and a footer that ends too soon
+    for (place, byte, at) in [
+        (53, 0x15, 53),
+        (53, 0x96, 90),
+        (50, 0xff, 48),
+        (32, 0x28, 31),
+        (91, 0, 91),
+    ] {
+        let fault = Some(FileFault::Thrift { at });
+        assert_eq!(rt; changed(alloc, place, byte).err(), fault);
+    }
 }

@@ -46,23 +46,19 @@ fn reads_a_page_head(rt: HostRuntime) -> Result<(), Fail> {
     Ok(())
 }
 
+/// Whether passing over a struct is refused at the end of the bytes, and the cursor stays.
+fn is_cut(bytes: &[u8]) -> bool {
+    let mut cursor = Cursor::new(bytes);
+    cursor.skip(Wire::Struct) == Err(ThriftFault::Short { at: bytes.len() }) && cursor.at() == 0
+}
+
 #[test]
 fn each_front_of_a_struct_ends_early(rt: HostRuntime) {
     for size in 0..17 {
-        let mut cursor = Cursor::new(&PAGE_HEAD[..size]);
-        assert_eq!(rt;
-            cursor.skip(Wire::Struct),
-            Err(ThriftFault::Short { at: size })
-        );
-        assert_eq!(rt; cursor.at(), 0);
+        assert!(rt; is_cut(&PAGE_HEAD[..size]));
     }
     for size in 0..23 {
-        let mut cursor = Cursor::new(&ALL_KINDS[..size]);
-        assert_eq!(rt;
-            cursor.skip(Wire::Struct),
-            Err(ThriftFault::Short { at: size })
-        );
-        assert_eq!(rt; cursor.at(), 0);
+        assert!(rt; is_cut(&ALL_KINDS[..size]));
     }
     assert_eq!(rt; end_of(Wire::Struct, &ALL_KINDS), Ok(23));
 }
@@ -83,120 +79,127 @@ fn sixteen_levels(rt: HostRuntime) -> Result<(), Fail> {
     Ok(())
 }
 
+/// Numbers of nine, ten and eleven bytes, and one past 64 bits.
+const NUMBERS: [(&[u8], Result<i64, ThriftFault>); 4] = [
+    (
+        &[0x80, 0x80, 0x80, 0x80, 0x80, 0x80, 0x80, 0x80, 0x01],
+        Ok(1 << 55),
+    ),
+    (
+        &[0xff, 0xff, 0xff, 0xff, 0xff, 0xff, 0xff, 0xff, 0xff, 0x01],
+        Ok(-9223372036854775808),
+    ),
+    (
+        &[0x80, 0x80, 0x80, 0x80, 0x80, 0x80, 0x80, 0x80, 0x80, 0x02],
+        Err(ThriftFault::Long { at: 0 }),
+    ),
+    (
+        &[
+            0x80, 0x80, 0x80, 0x80, 0x80, 0x80, 0x80, 0x80, 0x80, 0x80, 0x01,
+        ],
+        Err(ThriftFault::Long { at: 0 }),
+    ),
+];
+
 #[test]
-fn long_varints(rt: HostRuntime) -> Result<(), Fail> {
-    let mut bytes = Vec::new(rt.alloc());
-    bytes.resize(8, 0x80)?;
-    bytes.push(0x01)?;
-    assert_eq!(rt; Cursor::new(bytes.as_slice()).number(), Ok(1 << 55));
-    let mut ten = Vec::new(rt.alloc());
-    ten.resize(9, 0xff)?;
-    ten.push(0x01)?;
-    assert_eq!(rt;
-        Cursor::new(ten.as_slice()).number(),
-        Ok(-9223372036854775808)
-    );
-    let mut wide = Vec::new(rt.alloc());
-    wide.resize(9, 0x80)?;
-    wide.push(0x02)?;
-    assert_eq!(rt;
-        Cursor::new(wide.as_slice()).number(),
-        Err(ThriftFault::Long { at: 0 })
-    );
-    let mut eleven = Vec::new(rt.alloc());
-    eleven.resize(10, 0x80)?;
-    eleven.push(0x01)?;
-    assert_eq!(rt;
-        Cursor::new(eleven.as_slice()).number(),
-        Err(ThriftFault::Long { at: 0 })
-    );
-    Ok(())
+fn long_varints(rt: HostRuntime) {
+    for (bytes, wanted) in NUMBERS {
+        assert_eq!(rt; Cursor::new(bytes).number(), wanted);
+    }
 }
+
+/// Values that others follow, and where they end.
+const SKIPPED: [(Wire, &[u8], usize); 9] = [
+    (Wire::True, &[], 0),
+    (Wire::List, &[0x21, 1, 2, 7], 3),
+    (Wire::Set, &[0x32, 1, 2, 1, 7], 4),
+    (Wire::List, &[0x1a, 0x13, 5], 3),
+    (Wire::List, &[0x1c, 0x11, 0x12, 0x00, 9], 4),
+    (Wire::Set, &[0xf3, 0x01, 9], 3),
+    (Wire::Map, &[0x00, 7], 1),
+    (Wire::Map, &[0x01, 0x81, 0x01, 0x6b, 0x02, 7], 5),
+    (Wire::Map, &[0x02, 0x15, 1, 0x80, 0x01, 2, 0x00, 7], 7),
+];
 
 #[test]
 fn skips_elements(rt: HostRuntime) {
-    assert_eq!(rt; end_of(Wire::True, &[]), Ok(0));
-    assert_eq!(rt; end_of(Wire::List, &[0x21, 1, 2, 7]), Ok(3));
-    assert_eq!(rt; end_of(Wire::Set, &[0x32, 1, 2, 1, 7]), Ok(4));
-    assert_eq!(rt; end_of(Wire::List, &[0x1a, 0x13, 5]), Ok(3));
-    assert_eq!(rt; end_of(Wire::List, &[0x1c, 0x11, 0x12, 0x00, 9]), Ok(4));
-    assert_eq!(rt; end_of(Wire::Set, &[0xf3, 0x01, 9]), Ok(3));
-    assert_eq!(rt; end_of(Wire::Map, &[0x00, 7]), Ok(1));
-    assert_eq!(rt;
-        end_of(Wire::Map, &[0x01, 0x81, 0x01, 0x6b, 0x02, 7]),
-        Ok(5)
-    );
-    assert_eq!(rt;
-        end_of(Wire::Map, &[0x02, 0x15, 1, 0x80, 0x01, 2, 0x00, 7]),
-        Ok(7)
-    );
+    for (wire, bytes, end) in SKIPPED {
+        assert_eq!(rt; end_of(wire, bytes), Ok(end));
+    }
 }
+
+/// Values of unknown types, and with sizes that are too long or are longer than the bytes.
+const DAMAGED: [(Wire, &[u8], ThriftFault); 10] = [
+    (Wire::List, &[0x1d, 0], ThriftFault::Wire { at: 0 }),
+    (Wire::List, &[0x00], ThriftFault::Wire { at: 0 }),
+    (Wire::Map, &[0x01, 0x0b], ThriftFault::Wire { at: 1 }),
+    (Wire::Map, &[0x01, 0xbf], ThriftFault::Wire { at: 1 }),
+    (
+        Wire::Struct,
+        &[0x15, 0x02, 0x1e, 0],
+        ThriftFault::Wire { at: 2 },
+    ),
+    (Wire::Struct, &[0x10, 0], ThriftFault::Wire { at: 0 }),
+    (
+        Wire::Struct,
+        &[0x05, 0xfe, 0xff, 0x03, 0x00, 0x15, 0x00, 0x00],
+        ThriftFault::Long { at: 5 },
+    ),
+    (
+        Wire::List,
+        &[0xf3, 0xff, 0xff, 0xff, 0xff, 0x0f],
+        ThriftFault::Short { at: 6 },
+    ),
+    (
+        Wire::List,
+        &[0xf3, 0x80, 0x80, 0x80, 0x80, 0x10],
+        ThriftFault::Long { at: 1 },
+    ),
+    (
+        Wire::Binary,
+        &[0x80, 0x80, 0x80, 0x80, 0x10],
+        ThriftFault::Long { at: 0 },
+    ),
+];
 
 #[test]
 fn unknown_types_and_long_sizes(rt: HostRuntime) {
-    assert_eq!(rt;
-        end_of(Wire::List, &[0x1d, 0]),
-        Err(ThriftFault::Wire { at: 0 })
-    );
-    assert_eq!(rt;
-        end_of(Wire::List, &[0x00]),
-        Err(ThriftFault::Wire { at: 0 })
-    );
-    assert_eq!(rt;
-        end_of(Wire::Map, &[0x01, 0x0b]),
-        Err(ThriftFault::Wire { at: 1 })
-    );
-    assert_eq!(rt;
-        end_of(Wire::Map, &[0x01, 0xbf]),
-        Err(ThriftFault::Wire { at: 1 })
-    );
-    assert_eq!(rt;
-        end_of(Wire::Struct, &[0x15, 0x02, 0x1e, 0]),
-        Err(ThriftFault::Wire { at: 2 })
-    );
-    assert_eq!(rt;
-        end_of(Wire::Struct, &[0x10, 0]),
-        Err(ThriftFault::Wire { at: 0 })
-    );
-    let most = [0xf3, 0xff, 0xff, 0xff, 0xff, 0x0f];
-    assert_eq!(rt;
-        end_of(Wire::List, &most),
-        Err(ThriftFault::Short { at: 6 })
-    );
-    let more = [0xf3, 0x80, 0x80, 0x80, 0x80, 0x10];
-    assert_eq!(rt; end_of(Wire::List, &more), Err(ThriftFault::Long { at: 1 }));
-    assert_eq!(rt;
-        end_of(Wire::Binary, &more[1..]),
-        Err(ThriftFault::Long { at: 0 })
-    );
+    for (wire, bytes, fault) in DAMAGED {
+        assert_eq!(rt; end_of(wire, bytes), Err(fault));
+    }
 }
+
+/// Headers behind a field of an id, with the least and the greatest id, and with ids past 16 bits.
+const IDS: [(i16, &[u8], Result<Field, ThriftFault>); 4] = [
+    (
+        7,
+        &[0x05, 0xff, 0xff, 0x03],
+        Ok(Field::Next {
+            id: -32768,
+            wire: Wire::I32,
+        }),
+    ),
+    (
+        32766,
+        &[0x15],
+        Ok(Field::Next {
+            id: 32767,
+            wire: Wire::I32,
+        }),
+    ),
+    (32767, &[0x15], Err(ThriftFault::Long { at: 0 })),
+    (
+        0,
+        &[0x05, 0x80, 0x80, 0x04],
+        Err(ThriftFault::Long { at: 0 }),
+    ),
+];
 
 #[test]
 fn ids_have_sixteen_bits(rt: HostRuntime) {
-    let least = Field::Next {
-        id: -32768,
-        wire: Wire::I32,
-    };
-    let greatest = Field::Next {
-        id: 32767,
-        wire: Wire::I32,
-    };
-    assert_eq!(rt; Cursor::new(&[0x05, 0xff, 0xff, 0x03]).field(7), Ok(least));
-    assert_eq!(rt; Cursor::new(&[0x15]).field(32766), Ok(greatest));
-    assert_eq!(rt;
-        Cursor::new(&[0x15]).field(32767),
-        Err(ThriftFault::Long { at: 0 })
-    );
-    let past = [0x05, 0x80, 0x80, 0x04];
-    assert_eq!(rt;
-        Cursor::new(&past).field(0),
-        Err(ThriftFault::Long { at: 0 })
-    );
-    let followed = [0x05, 0xfe, 0xff, 0x03, 0x00, 0x15, 0x00, 0x00];
-    assert_eq!(rt;
-        end_of(Wire::Struct, &followed),
-        Err(ThriftFault::Long { at: 5 })
-    );
+    for (last, bytes, wanted) in IDS {
+        assert_eq!(rt; Cursor::new(bytes).field(last), wanted);
+    }
 }
 
 #[test]
