@@ -1,7 +1,6 @@
 -- What a reader returned, beside what there is to read.
 use Rattle.std.specs.Prelude.{ℕ, ◌+◌, Bool, true, false, Result, Ok, Err}
 use Rattle.row_base.specs.Faults as base
-pub use Rattle.row_base.specs.Faults.{◌>>=◌}
 use Rattle.thrift_compact.specs.declared.fault.ThriftFault.{ThriftFault}
 use Rattle.thrift_compact.specs.declared.fault.ThriftFault.TheVariants as thrift
 use Rattle.parquet_meta.specs.declared.fault.FileFault.{FileFault}
