@@ -1,12 +1,10 @@
 -- Chunks that are written stand where they are written.
-use Rattle.std.proofs.Common.{◌≡◌, ℕ, zero, suc, ◌+◌, ◌-◌, ◌<◌, ◌≤◌, ◌^◌, ◌==◌, nat_lt, Bool, true, false, ◌&&◌, if◌then◌else◌, List, [], ◌∷◌, ◌++◌, length, take, drop, Option, Some, None, IsSome, Result, Ok, ℤ, pos, refl, sym, ap, ◌∙◌, subst, arith, append_assoc, append-nil, length-append, length-drop}
-use Rattle.std.specs.Prelude.{unsigned_abs}
+use Rattle.std.proofs.Common.{◌≡◌, ℕ, zero, suc, ◌+◌, ◌<◌, ◌≤◌, ◌^◌, nat_lt, Bool, true, false, ◌&&◌, List, [], ◌∷◌, ◌++◌, length, take, drop, Option, Some, None, Ok, pos, refl, sym, ap, ◌∙◌, subst, arith, append_assoc, length-append, length-drop}
 use Rattle.std.specs.List.{All, find}
 use Rattle.std.proofs.lemmas.Bool.{lt-ltb, and_from}
 use Rattle.std.proofs.lemmas.List.{take-append-drop, length-take}
 use Rattle.std.proofs.lemmas.List.Elements.{All-take, All-drop}
 use Rattle.row_base.specs.declared.row.Datum.{Datum}
-use Rattle.row_base.specs.declared.row.Kind.{Kind}
 use Rattle.row_base.specs.declared.schema.Column.{Column}
 use Rattle.parquet_meta.specs.declared.head.PageHead.{PageHead}
 use Rattle.parquet_meta.specs.declared.head.PageAt.{PageAt}
@@ -16,16 +14,16 @@ use Rattle.parquet_meta.specs.Heads.{page_head_at, is_in_range}
 use Rattle.parquet_meta.specs.Written.{head_text}
 use Rattle.parquet_meta.proofs.SpelledWritten.{heads_read_back}
 use Rattle.parquet_pages.specs.Pages.{page_values, dictionary_values}
-use Rattle.parquet_pages.specs.Places.{can_place, dictionary_of}
+use Rattle.parquet_pages.specs.Places.{can_place}
 use Rattle.parquet_pages.specs.Written.{page_text, index_text, dictionary_text, CanStand}
-use Rattle.parquet_pages.specs.ReadBack.{CanReturn, StandsIn, HeadsData, HeadsDictionary}
+use Rattle.parquet_pages.specs.ReadBack.{CanReturn, StandsIn, HeadsData}
 use Rattle.parquet_pages.proofs.PagesRead.{page_only, dictionary_page_only}
 use Rattle.parquet_pages.proofs.Returning.{plain_page_back, indexed_page_back, dictionary_back}
 use Rattle.parquet_plain.specs.declared.source.Leaf.{Leaf}
 use Rattle.parquet_plain.specs.Tree.{physical_of}
 use Rattle.parquet_plain.specs.Reading.{is_chunk_of, has_natural_numbers, first_byte, page_end}
-use Rattle.parquet_plain.specs.Written.{parts_in, parts_of, page_values_most, data_head, dictionary_head, data_page, dictionary_page, page_of, front_of, pages_of, chunk_text_by, chunk_entry_by, AreIn, DictionaryStands}
-use Rattle.parquet_plain.specs.Grammar.{HeadStands, NullsMayStand, DataPages, done, next, ChunkPages, plain, indexed, IsChunk}
+use Rattle.parquet_plain.specs.Written.{parts_in, parts_of, page_values_most, data_head, dictionary_head, dictionary_page, page_of, front_of, pages_of, chunk_text_by, chunk_entry_by, AreIn, DictionaryStands}
+use Rattle.parquet_plain.specs.Grammar.{HeadStands, DataPages, done, next, ChunkPages, plain, indexed, IsChunk}
 use Rattle.parquet_plain.proofs.HeadsRead.{head_only, past}
 use Rattle.parquet_plain.proofs.Steps.{if_at}
 

@@ -1,7 +1,7 @@
 -- A file that is written holds the rows that were written, with null in the partition columns.
-use Rattle.std.proofs.Common.{◌≡◌, ◌≢◌, ℕ, zero, suc, ◌+◌, ◌%◌, ◌^◌, ◌<◌, ◌≤◌, Bool, true, false, ◌||◌, if◌then◌else◌, List, [], ◌∷◌, ◌++◌, length, map, take, drop, get_or, codes, Option, Some, None, is_some, Ok, ℤ, pos, refl, sym, ap, ◌∙◌, subst, arith, append_assoc, append-nil, length-append}
+use Rattle.std.proofs.Common.{◌≡◌, ℕ, zero, suc, ◌+◌, ◌%◌, ◌^◌, ◌<◌, ◌≤◌, Bool, true, false, ◌||◌, if◌then◌else◌, List, [], ◌∷◌, ◌++◌, length, map, drop, get_or, codes, Option, Some, None, is_some, Ok, pos, refl, sym, ap, ◌∙◌, subst, arith, append_assoc, append-nil, length-append}
 use Rattle.std.specs.Int.{w32, to_le_bytes}
-use Rattle.std.specs.List.{All, AllPairs}
+use Rattle.std.specs.List.{All}
 use Rattle.std.proofs.lemmas.List.{length-map, length-take}
 use Rattle.std.proofs.lemmas.Str.{IsUtf8-from_ascii}
 use Rattle.std.proofs.lemmas.List.Elements.{All-map, All-append, All-take, All-drop}
@@ -11,21 +11,17 @@ use Rattle.row_base.specs.declared.row.Kind.{Kind}
 use Rattle.row_base.specs.declared.row.Kind.TheVariants as kind
 use Rattle.row_base.specs.declared.schema.Column.{Column}
 use Rattle.row_base.specs.Schema.{TableSchema, IsSchema, FitsSchema}
-use Rattle.parquet_meta.specs.declared.meta.ColumnChunk.{ColumnChunk}
-use Rattle.parquet_meta.specs.declared.meta.RowGroup.{RowGroup}
-use Rattle.parquet_meta.specs.declared.meta.SchemaElement.{SchemaElement}
 use Rattle.parquet_meta.specs.Footer.{footer_of}
-use Rattle.parquet_meta.specs.Laws.{IsNarrow, IfThere, AllFit, IsShort, IsText, FitsColumn, FitsChunk, FitsGroup, FitsElement, FitsFile}
+use Rattle.parquet_meta.specs.Laws.{IsNarrow, IfThere, AllFit, IsShort, IsText, FitsChunk, FitsGroup, FitsElement, FitsFile}
 use Rattle.parquet_meta.specs.Written.{footer_text}
 use Rattle.parquet_meta.proofs.SpelledWritten.{footers_read_back}
 use Rattle.parquet_pages.specs.Places.{is_null, place_of, with_value, distinct_after, dictionary_of, pays, is_boolean}
 use Rattle.parquet_pages.specs.Written.{CanStand}
 use Rattle.parquet_pages.specs.ReadBack.{CanReturn, StandsIn}
-use Rattle.parquet_plain.specs.declared.source.Source.{Source}
 use Rattle.parquet_plain.specs.Tree.{physical_of, is_partition, sources_from}
 use Rattle.parquet_plain.specs.Reading.{most_rows, file_rows}
 use Rattle.parquet_plain.specs.Written.{parts_in, parts_of, page_values_most, group_rows_most, front_of, pages_of, chunk_text_by, chunk_text, chunk_entry_by, chunk_entry, column_values, chunks_text, chunk_entries, group_text, group_entry, groups_text, group_entries, converted_of, encodings_of, place_if, repetition_of, element_of, elements_from, elements_of, root_of, magic, groups_of, meta_of, length_bytes, ended, file_text}
-use Rattle.parquet_plain.specs.Grammar.{AreGroups, FileRows}
+use Rattle.parquet_plain.specs.Grammar.{AreGroups}
 use Rattle.parquet_plain.specs.ReadBack.{nulled, Returns, FilesReadBack}
 use Rattle.parquet_plain.proofs.ChunkBack.{Small, stands_first, stands_second, stands_within, Whole, DictionaryBack, IsFew, EachIs, joined, parts_each, parts_joined}
 use Rattle.parquet_plain.proofs.Dictionaries.{values_placed, dictionary_stands, all_may_stand}

@@ -1,18 +1,16 @@
 -- Files are read where they hold rows, and only there.
-use Rattle.std.proofs.Common.{◌≡◌, ℕ, zero, suc, ◌+◌, ◌<◌, ◌≤◌, Bool, true, false, nat_lt, ◌&&◌, if◌then◌else◌, List, [], ◌∷◌, ◌++◌, length, Result, Ok, Err, refl, sym, ap, ◌∙◌, subst, arith}
+use Rattle.std.proofs.Common.{◌≡◌, ℕ, ◌+◌, ◌<◌, ◌≤◌, true, nat_lt, ◌&&◌, if◌then◌else◌, List, [], ◌∷◌, length, Ok, Err, refl, sym, ap, ◌∙◌, subst, arith}
 use Rattle.std.specs.List.{list_any}
 use Rattle.std.proofs.lemmas.Bool.{ltb-false, le-ltb, ltb-true, lt-ltb, and_parts, and_from}
 use Rattle.row_base.specs.declared.row.Datum.{Datum}
 use Rattle.row_base.specs.Schema.{TableSchema}
-use Rattle.parquet_meta.specs.declared.fault.FileFault.{FileFault}
 use Rattle.parquet_meta.specs.declared.fault.FileFault.TheVariants as faults
-use Rattle.parquet_meta.specs.declared.meta.FileMeta.{FileMeta}
 use Rattle.parquet_meta.specs.declared.meta.SchemaElement.{SchemaElement}
 use Rattle.row_base.specs.Faults.{◌>>=◌}
 use Rattle.parquet_meta.specs.Footer.{footer_of}
 use Rattle.parquet_plain.specs.declared.source.Source.{Source}
 use Rattle.parquet_plain.specs.Tree.{has_numbers_in_range, is_group, is_flat, is_other_type, is_leaf, children_of, sources_from, leaf_checked, leaves_checked, if_all, sources_in}
-use Rattle.parquet_plain.specs.Reading.{most_rows, with_groups, first_name, file_rows}
+use Rattle.parquet_plain.specs.Reading.{with_groups, first_name, file_rows}
 use Rattle.parquet_plain.specs.Grammar.{IsLeaf, AreLeaves, IsTree, AreGroups, FileRows, FilesAreRead, RowsAreOne}
 use Rattle.parquet_plain.proofs.HeadsRead.{footer_found, footer_only}
 use Rattle.parquet_plain.proofs.GroupsRead.{groups_found, groups_only}

@@ -1,8 +1,8 @@
 -- Groups that are written stand where they are written.
-use Rattle.std.proofs.Common.{◌≡◌, ◌≢◌, ℕ, zero, suc, ◌+◌, ◌<◌, ◌≤◌, ◌==◌, Bool, true, false, if◌then◌else◌, List, [], ◌∷◌, ◌++◌, length, map, get_or, Option, Some, None, ℤ, pos, refl, sym, ap, ◌∙◌, subst, arith, append_assoc, append-nil, length-append}
-use Rattle.std.specs.List.{All, AllPairs, find}
-use Rattle.std.specs.Cmp.Lexicographic.{pointwise, bytes_decides}
-use Rattle.std.proofs.lemmas.Bool.{true≢false, false_from_ne_true}
+use Rattle.std.proofs.Common.{◌≡◌, ◌≢◌, ℕ, suc, ◌+◌, ◌<◌, Bool, true, false, if◌then◌else◌, List, [], ◌∷◌, ◌++◌, length, get_or, Option, Some, None, refl, sym, ap, ◌∙◌, subst, arith, append_assoc}
+use Rattle.std.specs.List.{AllPairs, find}
+use Rattle.std.specs.Cmp.Lexicographic.{bytes_decides}
+use Rattle.std.proofs.lemmas.Bool.{false_from_ne_true}
 use Rattle.std.proofs.lemmas.List.{length-map}
 use Rattle.row_base.specs.declared.row.Datum.{Datum}
 use Rattle.row_base.specs.declared.row.Datum.TheVariants as datum
@@ -15,7 +15,7 @@ use Rattle.parquet_plain.specs.declared.source.Leaf.{Leaf}
 use Rattle.parquet_plain.specs.declared.source.Source.TheVariants as source
 use Rattle.parquet_plain.specs.Tree.{same_name, is_partition, is_optional, leaf_at, leaf_from, source_by, sources_from}
 use Rattle.parquet_plain.specs.Reading.{is_chunk_of}
-use Rattle.parquet_plain.specs.Written.{chunk_text, chunk_entry, chunk_text_by, chunk_entry_by, column_values, chunks_text, chunk_entries, repetition_of, element_of, elements_from}
+use Rattle.parquet_plain.specs.Written.{chunk_text, chunk_entry, chunk_entry_by, column_values, chunks_text, chunk_entries, repetition_of, element_of, elements_from}
 use Rattle.parquet_plain.specs.Grammar.{IsChunk, HasValues, HaveValues}
 use Rattle.parquet_plain.proofs.ChunkBack.{Small, stands_first, stands_second, IsLeafOf, Whole, entry_back}
 use Rattle.parquet_plain.proofs.Steps.{if_at, unless_at}

@@ -1,12 +1,11 @@
 -- Chunks, columns and groups of rows are read where they stand, and only there.
-use Rattle.std.proofs.Common.{◌≡◌, ℕ, zero, suc, ◌+◌, ◌-◌, ◌<◌, ◌≤◌, ◌==◌, Bool, true, false, nat_lt, not, ◌&&◌, if◌then◌else◌, List, [], ◌∷◌, ◌++◌, length, Option, Some, None, is_some, Result, Ok, Err, ℤ, pos, negsuc, refl, sym, ap, ◌∙◌, subst, arith, append_assoc, append-nil, length-append}
+use Rattle.std.proofs.Common.{◌≡◌, ℕ, ◌+◌, ◌≤◌, ◌==◌, true, false, nat_lt, not, ◌&&◌, if◌then◌else◌, List, [], ◌∷◌, ◌++◌, length, Option, Some, None, is_some, Ok, Err, ℤ, pos, negsuc, refl, sym, ap, ◌∙◌, subst, arith, append_assoc, append-nil, length-append}
 use Rattle.std.specs.Prelude.{unsigned_abs, replicate, drop}
 use Rattle.std.specs.Ordering.{int_eq}
 use Rattle.std.specs.List.{find}
 use Rattle.std.proofs.lemmas.Bool.{ltb-false, le-ltb, eqb-true, eq-eqb, and_parts, and_from}
 use Rattle.std.proofs.lemmas.List.{length-replicate}
 use Rattle.row_base.specs.declared.row.Datum.{Datum}
-use Rattle.parquet_meta.specs.declared.fault.FileFault.{FileFault}
 use Rattle.parquet_meta.specs.declared.fault.FileFault.TheVariants as faults
 use Rattle.parquet_meta.specs.declared.meta.ColumnChunk.{ColumnChunk}
 use Rattle.parquet_meta.specs.declared.meta.RowGroup.{RowGroup}
@@ -17,7 +16,7 @@ use Rattle.parquet_plain.specs.declared.source.Leaf.{Leaf}
 use Rattle.parquet_plain.specs.declared.source.Source.{Source}
 use Rattle.parquet_plain.specs.declared.source.Source.TheVariants as source
 use Rattle.parquet_plain.specs.Tree.{physical_of}
-use Rattle.parquet_plain.specs.Reading.{is_chunk_of, has_natural_numbers, first_byte, codec_fault, is_whole, span_of, chunk_values, leaf_values_by, leaf_values, source_values, columns_values, with_column, with_columns, side_by_side, head_or_null, most_rows, rows_of, group_rows, with_groups}
+use Rattle.parquet_plain.specs.Reading.{is_chunk_of, has_natural_numbers, first_byte, codec_fault, is_whole, span_of, chunk_values, leaf_values_by, leaf_values, source_values, columns_values, with_column, with_columns, side_by_side, most_rows, rows_of, group_rows, with_groups}
 use Rattle.parquet_plain.specs.Grammar.{IsChunk, HasValues, HaveValues, IsGroup, AreGroups}
 use Rattle.parquet_plain.proofs.WalkRead.{chunk_found, chunk_only}
 use Rattle.parquet_plain.proofs.Steps.{bind_ok, bind_at, if_ok, unless_ok, if_at, unless_at, ok_inside, not_false, false_not, not_is_true, true_not}

@@ -1,5 +1,5 @@
 -- Footers and the heads of pages are read where they stand, and only there.
-use Rattle.std.proofs.Common.{◌≡◌, ℕ, ◌<◌, ◌+◌, ◌++◌, List, length, length-append, Ok, ℤ, ap, ◌∙◌, arith}
+use Rattle.std.proofs.Common.{◌≡◌, ℕ, ◌<◌, ◌++◌, List, length, length-append, Ok, ℤ, ap, ◌∙◌, arith}
 use Rattle.thrift_compact.specs.declared.wire.Wire.{Wire}
 use Rattle.thrift_compact.specs.Spelled.{SpellsNext, short, long}
 use Rattle.parquet_meta.specs.declared.head.PageAt.{PageAt}

@@ -1,7 +1,7 @@
 -- What is known of a page whose values are read: how many there are, and where null stands.
-use Rattle.std.proofs.Common.{◌≡◌, ◌⊎◌, ℕ, zero, suc, ◌+◌, ◌<◌, ◌≤◌, ◌==◌, leb, Bool, true, false, not, ◌||◌, ◌&&◌, if◌then◌else◌, List, [], ◌∷◌, ◌++◌, length, get_or, take, map, Option, Some, None, option_map, option_and_then, Result, Ok, Err, ℤ, pos, negsuc, refl, sym, ap, ◌∙◌, subst, arith, inl, inr}
+use Rattle.std.proofs.Common.{◌≡◌, ℕ, zero, suc, ◌==◌, leb, Bool, true, false, not, ◌||◌, ◌&&◌, if◌then◌else◌, List, [], ◌∷◌, length, map, Option, Some, None, option_map, Ok, Err, ℤ, pos, negsuc, refl, sym, ap, ◌∙◌, subst, arith, inl, inr}
 use Rattle.std.specs.Prelude.{unsigned_abs, slice_get}
-use Rattle.std.specs.List.{All, list_any}
+use Rattle.std.specs.List.{All}
 use Rattle.std.specs.Ordering.{int_eq}
 use Rattle.std.proofs.lemmas.Bool.{cases_Bool, true≢false}
 use Rattle.std.proofs.lemmas.List.{length-take}
@@ -10,22 +10,21 @@ use Rattle.row_base.specs.declared.row.Datum.{Datum}
 use Rattle.row_base.specs.declared.row.Datum.TheVariants as datum
 use Rattle.row_base.specs.declared.row.Kind.{Kind}
 use Rattle.row_base.specs.declared.row.Kind.TheVariants as kind
-use Rattle.parquet_meta.specs.declared.fault.FileFault.{FileFault}
 use Rattle.parquet_meta.specs.declared.fault.FileFault.TheVariants as faults
 use Rattle.parquet_meta.specs.declared.head.DataPageHead.{DataPageHead}
 use Rattle.parquet_meta.specs.declared.head.PageAt.{PageAt}
 use Rattle.row_base.specs.Faults.{◌>>=◌}
 use Rattle.parquet_pages.specs.Gives.{or_page}
 use Rattle.parquet_pages.specs.Hybrids.{hybrid_values}
-use Rattle.parquet_pages.specs.Plain.{block_in, plain_values, boolean_of}
+use Rattle.parquet_pages.specs.Plain.{block_in, boolean_of}
 use Rattle.parquet_pages.specs.Levels.{levels_in, there, has_null, spread}
 use Rattle.parquet_pages.specs.Places.{values_at, indexed_values, is_null}
 use Rattle.parquet_pages.specs.Pages.{is_plain, is_dictionary, is_hybrid, count_of, bytes_at, body_of, checked_head, data_head, present_values, body_values, body_has_null, page_values, page_has_null}
-use Rattle.parquet_pages.specs.Grammar.{PlainValues, PlainValue, long, integer, date, string, InLine, done, next, InBits}
-use Rattle.parquet_pages.proofs.Chains.{bind_some, map_some, bind_at, map_at, inside}
+use Rattle.parquet_pages.specs.Grammar.{PlainValues, PlainValue, long, integer, date, string, InLine, done, next}
+use Rattle.parquet_pages.proofs.Chains.{bind_some, map_some, map_at, inside}
 use Rattle.parquet_pages.proofs.Pieces.{hybrid_only}
 use Rattle.parquet_pages.proofs.PlainRead.{plain_only}
-use Rattle.parquet_plain.specs.Reading.{count_in, count_by, encodings_checked}
+use Rattle.parquet_plain.specs.Reading.{count_in, count_by}
 use Rattle.parquet_plain.proofs.Steps as steps
 
 -- a value that isn't null

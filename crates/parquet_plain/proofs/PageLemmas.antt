@@ -1,7 +1,6 @@
 -- The pages of a chunk, one after another.
-use Rattle.std.proofs.Common.{◌≡◌, ℕ, zero, suc, ◌+◌, ◌-◌, ◌<◌, ◌≤◌, Bool, true, false, nat_lt, List, Result, Ok, refl, ap, ◌∙◌, arith}
+use Rattle.std.proofs.Common.{◌≡◌, ℕ, zero, suc, ◌+◌, ◌-◌, ◌<◌, ◌≤◌, nat_lt, List, Ok, refl, ap, ◌∙◌, arith}
 use Rattle.std.proofs.lemmas.Bool.{cond-false, cond-true, lt-ltb, le-ltb}
-use Rattle.parquet_meta.specs.declared.fault.FileFault.{FileFault}
 use Rattle.row_base.specs.Faults.{◌>>=◌}
 use Rattle.parquet_plain.specs.declared.chunk.Span.{Span}
 use Rattle.parquet_plain.specs.declared.pages.Walk.{Walk}

@@ -1,13 +1,11 @@
 -- Rows that fit a schema have values that can stand in the columns' pages.
-use Rattle.std.proofs.Common.{◌≡◌, ℕ, zero, suc, ◌+◌, ◌<◌, ◌≤◌, Bool, true, false, List, [], ◌∷◌, length, map, Option, Some, None, if◌then◌else◌, not, ◌&&◌, get_or, refl, sym, ap, ◌∙◌, arith, subst}
+use Rattle.std.proofs.Common.{◌≡◌, ℕ, ◌<◌, Bool, true, false, List, length, Some, None, if◌then◌else◌, not, ◌&&◌, get_or, refl, ap, ◌∙◌, arith}
 use Rattle.std.specs.List.{All, list_any}
 use Rattle.std.specs.Prelude.{◌==◌}
 use Rattle.std.proofs.lemmas.List.Elements.{All-map}
 use Rattle.row_base.specs.declared.row.Datum.{Datum}
 use Rattle.row_base.specs.declared.row.Datum.TheVariants as datum
-use Rattle.row_base.specs.declared.row.Kind.{Kind}
 use Rattle.row_base.specs.declared.schema.Column.{Column}
-use Rattle.row_base.specs.declared.schema.RowFault.{RowFault}
 use Rattle.row_base.specs.declared.schema.RowFault.TheVariants as fault
 use Rattle.row_base.specs.Schema.{TableSchema, FitsSchema, datum_fault, is_of_kind, is_empty_text}
 use Rattle.parquet_pages.specs.Written.{CanStand}

@@ -1,5 +1,5 @@
 -- The schema that is written is a tree of the table's columns, and the columns side by side are the rows.
-use Rattle.std.proofs.Common.{◌≡◌, ℕ, zero, suc, ◌+◌, ◌<◌, ◌≤◌, ◌==◌, ◌^◌, nat_lt, Bool, true, false, not, ◌&&◌, ◌||◌, if◌then◌else◌, List, [], ◌∷◌, ◌++◌, length, map, drop, get_or, Option, Some, None, ℤ, pos, refl, sym, ap, ◌∙◌, subst, arith, append_assoc, append-nil, length-append}
+use Rattle.std.proofs.Common.{◌≡◌, ℕ, ◌+◌, ◌≤◌, ◌==◌, ◌^◌, nat_lt, Bool, true, false, not, ◌&&◌, ◌||◌, if◌then◌else◌, List, [], ◌∷◌, ◌++◌, length, map, get_or, Option, Some, None, pos, refl, sym, ap, ◌∙◌, subst, arith, append_assoc, append-nil, length-append}
 use Rattle.std.specs.Prelude.{replicate}
 use Rattle.std.specs.List.{list_any}
 use Rattle.std.proofs.lemmas.Bool.{eqb-true, lt-ltb}
@@ -14,8 +14,8 @@ use Rattle.parquet_pages.proofs.PagesRead.{number_same}
 use Rattle.parquet_plain.specs.declared.source.Leaf.{Leaf}
 use Rattle.parquet_plain.specs.declared.source.Source.{Source}
 use Rattle.parquet_plain.specs.declared.source.Source.TheVariants as source
-use Rattle.parquet_plain.specs.Tree.{physical_of, has_numbers_in_range, is_group, is_flat, has_type, is_partition, leaf_at, leaf_from, source_by, sources_from, is_other_type, children_of}
-use Rattle.parquet_plain.specs.Reading.{with_column, with_columns, side_by_side, head_or_null}
+use Rattle.parquet_plain.specs.Tree.{physical_of, has_numbers_in_range, is_group, is_flat, has_type, is_partition, leaf_at, leaf_from, source_by, sources_from, is_other_type}
+use Rattle.parquet_plain.specs.Reading.{with_column, with_columns, side_by_side}
 use Rattle.parquet_plain.specs.Written.{column_values, element_of, repetition_of, elements_from, elements_of, root_of}
 use Rattle.parquet_plain.specs.ReadBack.{nulled_from}
 use Rattle.parquet_plain.specs.Grammar.{IsLeaf, AreLeaves, IsTree}

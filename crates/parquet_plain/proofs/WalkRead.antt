@@ -1,8 +1,7 @@
 -- The pages of a chunk are read where they stand, and only there.
-use Rattle.std.proofs.Common.{◌≡◌, ℕ, zero, suc, ◌+◌, ◌-◌, ◌<◌, ◌≤◌, ◌==◌, Bool, true, false, nat_lt, not, ◌&&◌, if◌then◌else◌, List, [], ◌∷◌, ◌++◌, length, Option, Some, None, Result, Ok, Err, ℤ, pos, refl, sym, ap, ◌∙◌, subst, arith, append_assoc, append-nil, length-append, ◌⊎◌, inl, inr, ◌||◌}
+use Rattle.std.proofs.Common.{◌≡◌, ℕ, zero, suc, ◌+◌, ◌-◌, ◌<◌, ◌≤◌, ◌==◌, Bool, true, false, nat_lt, not, ◌&&◌, if◌then◌else◌, List, [], ◌++◌, length, Option, Some, None, Result, Ok, Err, pos, refl, sym, ap, ◌∙◌, subst, arith, append_assoc, append-nil, length-append, ◌⊎◌, inl, inr, ◌||◌}
 use Rattle.std.specs.Ordering.{int_eq}
-use Rattle.std.specs.List.{All}
-use Rattle.std.proofs.lemmas.Bool.{ltb-false, ltb-true, le-ltb, lt-ltb, eqb-true, eq-eqb, and_parts, and_from, or_left, or_right}
+use Rattle.std.proofs.lemmas.Bool.{ltb-false, le-ltb, lt-ltb, eqb-true, eq-eqb, and_parts, and_from, or_left, or_right}
 use Rattle.row_base.specs.declared.row.Datum.{Datum}
 use Rattle.parquet_meta.specs.declared.fault.FileFault.{FileFault}
 use Rattle.parquet_meta.specs.declared.fault.FileFault.TheVariants as faults
@@ -12,14 +11,14 @@ use Rattle.row_base.specs.Faults.{◌>>=◌}
 use Rattle.parquet_meta.specs.Heads.{page_head_at}
 use Rattle.parquet_pages.specs.Pages.{page_values, page_has_null, dictionary_values}
 use Rattle.parquet_pages.specs.Grammar.{DataPage, DictionaryPage}
-use Rattle.parquet_pages.proofs.PagesRead.{page_found, page_only, dictionary_page_found, dictionary_page_only, number_same, same_number}
+use Rattle.parquet_pages.proofs.PagesRead.{page_found, page_only, dictionary_page_found, dictionary_page_only, number_same}
 use Rattle.parquet_plain.specs.declared.chunk.Span.{Span}
 use Rattle.parquet_plain.specs.declared.pages.Walk.{Walk}
 use Rattle.parquet_plain.specs.declared.source.Leaf.{Leaf}
 use Rattle.parquet_plain.specs.Reading.{page_end, count_in, dictionary_checked, nulls_checked, with_dictionary, with_values, with_data, with_page, with_pages, walk_from, finished, chunk_values}
 use Rattle.parquet_plain.specs.Grammar.{HeadStands, NullsMayStand, DataPages, done, next, ChunkPages, plain, indexed}
 use Rattle.parquet_plain.proofs.HeadsRead.{head_found, head_only, past}
-use Rattle.parquet_plain.proofs.PageFacts.{There, AreThere, page_count, nulls_found, nulls_only, plain_there}
+use Rattle.parquet_plain.proofs.PageFacts.{AreThere, page_count, nulls_found, nulls_only, plain_there}
 use Rattle.parquet_plain.proofs.PageLemmas.{pages_end}
 use Rattle.parquet_plain.proofs.Steps.{bind_ok, bind_at, if_ok, unless_ok, if_at, unless_at, ok_inside, not_false, false_not, not_is_true, true_not}
 

@@ -1,6 +1,5 @@
 -- What is written, piece by piece.
-use Rattle.std.proofs.Common.{◌≡◌, ℕ, zero, suc, ◌+◌, ◌-◌, ◌<◌, ◌≤◌, Bool, true, false, List, [], ◌∷◌, ◌++◌, length, take, drop, cond, unwrap_or, Option, Some, None, refl, sym, ap, ◌∙◌, arith, append_assoc, append-nil, length-append}
-use Rattle.std.specs.List.{All}
+use Rattle.std.proofs.Common.{◌≡◌, ℕ, zero, suc, ◌+◌, ◌<◌, Bool, true, false, List, [], ◌∷◌, ◌++◌, length, take, drop, cond, unwrap_or, Option, Some, None, refl, sym, ap, ◌∙◌, arith, append_assoc, append-nil, length-append}
 use Rattle.std.proofs.lemmas.List.Elements.{All-take, All-drop}
 use Rattle.row_base.specs.declared.row.Datum.{Datum}
 use Rattle.row_base.specs.declared.schema.Column.{Column}
@@ -28,7 +27,7 @@ places_first ds (suc n) (v ∷ vs) = by_null (is_null v) (unwrap_or (place_of ds
   where
     by_null : (b : Bool) (p k : ℕ) (all first : List ℕ) → take k all ≡ first
         → take (cond b 0 1 + k) (cond b all (p ∷ all)) ≡ cond b first (p ∷ first)
-    by_null true p k all first e = e
+    by_null true p k all first e = let same : 0 + k ≡ k = omega arith in ap (λ n. take n all) same ∙ e
     by_null false p k all first e = let more : 1 + k ≡ suc k = omega arith in ap (λ n. take n (p ∷ all)) more ∙ ap (λ (ps : List ℕ). p ∷ ps) e
 
 places_later : (ds : List Datum) (n : ℕ) (vs : List Datum) → drop (present (take n vs)) (places_of ds vs) ≡ places_of ds (drop n vs)
@@ -37,7 +36,7 @@ places_later ds (suc n) [] = refl
 places_later ds (suc n) (v ∷ vs) = by_null (is_null v) (unwrap_or (place_of ds v) 0) (present (take n vs)) (places_of ds vs) (places_of ds (drop n vs)) (places_later ds n vs)
   where
     by_null : (b : Bool) (p k : ℕ) (all later : List ℕ) → drop k all ≡ later → drop (cond b 0 1 + k) (cond b all (p ∷ all)) ≡ later
-    by_null true p k all later e = e
+    by_null true p k all later e = let same : 0 + k ≡ k = omega arith in ap (λ n. drop n all) same ∙ e
     by_null false p k all later e = let more : 1 + k ≡ suc k = omega arith in ap (λ n. drop n (p ∷ all)) more ∙ e
 
 pub ArePlaces-take : (o : Option (List Datum)) (n : ℕ) (vs page : List Datum) (places here : List ℕ) → page ≡ take n vs → here ≡ take (present page) places

@@ -1,6 +1,6 @@
 -- What a file of rows is, as a relation between its bytes and the rows (README.md, "File format", "Data Pages";
 -- parquet.thrift), apart from reading and from writing.
-use Rattle.std.specs.Prelude.{◌≡◌, ◌↔◌, ℕ, zero, suc, ◌+◌, ◌<◌, ◌≤◌, Bool, true, false, List, [], ◌∷◌, ◌++◌, length, slice_index_or, Option, Some, None, Ok, ℤ, pos, unsigned_abs}
+use Rattle.std.specs.Prelude.{◌≡◌, ◌↔◌, ℕ, zero, suc, ◌+◌, ◌≤◌, true, false, List, [], ◌∷◌, ◌++◌, length, slice_index_or, Option, Some, None, Ok, pos, unsigned_abs}
 use Rattle.std.specs.List.{All, find, list_any}
 use Rattle.row_base.specs.declared.row.Datum.{Datum}
 use Rattle.row_base.specs.declared.row.Datum.TheVariants as datum
@@ -8,7 +8,6 @@ use Rattle.row_base.specs.Schema.{TableSchema}
 use Rattle.thrift_compact.specs.Laws.{Stands}
 use Rattle.parquet_meta.specs.declared.head.PageAt.{PageAt}
 use Rattle.parquet_meta.specs.declared.meta.ColumnChunk.{ColumnChunk}
-use Rattle.parquet_meta.specs.declared.meta.ColumnMetaData.{ColumnMetaData}
 use Rattle.parquet_meta.specs.declared.meta.FileMeta.{FileMeta}
 use Rattle.parquet_meta.specs.declared.meta.RowGroup.{RowGroup}
 use Rattle.parquet_meta.specs.declared.meta.SchemaElement.{SchemaElement}

@@ -141,7 +141,7 @@ pub(crate) fn column_values(
     place: usize,
     rows: RowSlice<'_>,
 ) -> Result<Vec<Datum>, NoMemory>
-    ensures { IfOk result (λ v. v.items ≡ spec.column_values place rows) }
+    ensures { IfOk result (λ v. v.items ≡ spec.column_values place rows.entry) }
 {
     let mut values = Vec::with_capacity(alloc, rows.len())?;
     for row in rows {

@@ -84,8 +84,8 @@ pub(crate) fn append_groups(
     out: &mut Vec<u8>,
 ) -> Result<Vec<RowGroup>, NoMemory>
     requires { All (FitsSchema schema.now) rows }
-    ensures text { OnOk result (out.new.items ≡ out.old.items ++ spec.groups_text schema.now (spec.groups_of rows)) }
-    ensures entries { IfOk result (λ v. v.items ≡ spec.group_entries schema.now (length out.old.items) (spec.groups_of rows)) }
+    ensures text { OnOk result (out.new.items ≡ out.old.items ++ spec.groups_text schema.now (spec.groups_of rows.entry)) }
+    ensures entries { IfOk result (λ v. v.items ≡ spec.group_entries schema.now (length out.old.items) (spec.groups_of rows.entry)) }
 {
     let mut groups = Vec::new(alloc);
     let mut rest = rows;

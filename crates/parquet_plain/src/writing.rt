@@ -40,7 +40,8 @@ fn meta_of(
     rows: &Rows,
     groups: Vec<RowGroup>,
 ) -> Result<FileMeta, NoMemory>
-    requires { groups.items ≡ spec.group_entries schema.now 4 (spec.groups_of rows.now) }
+    requires few { length rows.now ≤ 16777216 }
+    requires groups { groups.items ≡ spec.group_entries schema.now 4 (spec.groups_of rows.now) }
     ensures { IfOk result (λ m. m ≡ spec.meta_of schema.now rows.now) }
 {
     Ok(FileMeta {

@@ -169,7 +169,9 @@ fn bodies(
         return Ok(None);
     };
     let page = found.dictionary.page(alloc, Kind::Long)?;
-    let indices = found.dictionary.indices(alloc, optional, values, &found.places)?;
+    let indices = found
+        .dictionary
+        .indices(alloc, optional, values, &found.places)?;
     Ok(Some((page, indices)))
 }
 

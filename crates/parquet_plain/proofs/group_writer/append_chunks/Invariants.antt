@@ -1,5 +1,5 @@
 -- What is written and told, before what is written and told of the columns that are left, is the whole.
-use Rattle.std.proofs.Common.{◌≡◌, ◌++◌, ℕ, List, length, drop}
+use Rattle.std.proofs.Common.{◌≡◌, ◌++◌, length, drop}
 use Rattle.parquet_plain.specs.Written.{chunks_text, chunk_entries}
 use Rattle.parquet_plain.proofs.group_writer.append_chunks.Given as goal
 

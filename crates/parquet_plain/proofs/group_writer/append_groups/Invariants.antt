@@ -1,5 +1,5 @@
 -- What is written and told, before what is written and told of the groups that are left, is the whole.
-use Rattle.std.proofs.Common.{◌≡◌, ◌++◌, ℕ, List, length}
+use Rattle.std.proofs.Common.{◌≡◌, ◌++◌, length}
 use Rattle.std.specs.List.{All}
 use Rattle.row_base.specs.Schema.{FitsSchema}
 use Rattle.parquet_plain.specs.Written.{groups_text, group_entries, groups_of}

@@ -1,9 +1,8 @@
-use Rattle.std.proofs.Common.{◌≡◌, ◌++◌, ◌<◌, ◌≤◌, ℕ, [], ap, sym, ◌∙◌, refl, length, arith, subst, drop, take}
+use Rattle.std.proofs.Common.{sym, ◌∙◌, subst}
 use Rattle.std.specs.List.{All}
 use Rattle.std.proofs.lemmas.List.Elements.{All-take, All-drop}
-use Rattle.row_base.specs.declared.row.Datum.{Datum}
 use Rattle.parquet_pages.specs.Written.{CanStand}
-use Rattle.parquet_plain.specs.Written.{pages_of, parts_of, page_values_most, AreIn}
+use Rattle.parquet_plain.specs.Written.{page_values_most, AreIn}
 use Rattle.parquet_plain.proofs.Parts.{some_left, none_left}
 use Rattle.parquet_plain.proofs.WriterLemmas.{pages_step, pages_done, AreIn-take, AreIn-drop, ArePlaces-take, ArePlaces-drop}
 use Rattle.parquet_plain.proofs.page_writer.append_pages.Goals as goal

@@ -1,7 +1,6 @@
 -- What is written, before the pages of the values that are left, is the whole.
-use Rattle.std.proofs.Common.{◌≡◌, ◌++◌, ℕ, List, length}
+use Rattle.std.proofs.Common.{◌≡◌, ◌++◌, length}
 use Rattle.std.specs.List.{All}
-use Rattle.row_base.specs.declared.row.Datum.{Datum}
 use Rattle.parquet_pages.specs.Written.{CanStand}
 use Rattle.parquet_plain.specs.Written.{pages_of, parts_of, page_values_most, AreIn, ArePlaces}
 use Rattle.parquet_plain.proofs.page_writer.append_pages.Given as goal

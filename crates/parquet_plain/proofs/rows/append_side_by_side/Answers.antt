@@ -1,4 +1,4 @@
-use Rattle.std.proofs.Common.{rules, ◌≡◌}
+use Rattle.std.proofs.Common.{rules}
 use Rattle.parquet_plain.proofs.SideBySide.{side_by_row}
 use Rattle.parquet_plain.proofs.rows.append_side_by_side.Goals as goal
 

@@ -1,4 +1,4 @@
-use Rattle.std.proofs.Common.{rules, arith, ◌≡◌, ◌++◌, ◌<◌, List, ap, ◌∙◌, map}
+use Rattle.std.proofs.Common.{arith, ◌++◌, ◌<◌, List, ap, ◌∙◌, map}
 use Rattle.row_base.specs.declared.row.Datum.{Datum}
 use Rattle.parquet_plain.specs.Reading.{head_or_null, row_by_row}
 use Rattle.parquet_plain.proofs.SideBySide.{row_step}

@@ -1,4 +1,4 @@
-use Rattle.std.proofs.Common.{rules, arith, ◌≡◌, ◌<◌, length, drop}
+use Rattle.std.proofs.Common.{arith, ◌<◌, length, drop}
 use Rattle.parquet_plain.specs.Reading.{head_or_null}
 use Rattle.parquet_plain.proofs.SideBySide.{value_step, column_step, left_step}
 use Rattle.parquet_plain.proofs.rows.take_row.Goals as goal
