@@ -23,7 +23,7 @@ names_in s = map (λ x. x.name) s.sessions
 -- the program ran with these replies: each by the statement's own calls, in the order of the schedule, and the journal lawful
 pub record Ran (p : Program) (before after : Option (List JournalEntry)) (replies : List (List Reply)) : Type 0 where
   pub runs : Runs p before after replies
-  pub follows : FollowsItems p before after
+  pub follows : FollowsItems p before after replies
   pub serial : IsSerial p before after replies
 
 -- the script ran, and the text is that of the replies

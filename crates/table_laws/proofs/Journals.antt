@@ -254,14 +254,14 @@ module _ (level : Level) (K : Tag → List ℕ → List ℕ → Type 0) (script 
   keeps_one t true (Some statement) r e past es h = h.1
   keeps_one t false s r e past es h = h
 
-  keeps_rest : (past : Entries) (e : JournalEntry) (es : Entries) → Keeps past (e ∷ es) → Keeps (e ∷ past) es
+  pub keeps_rest : (past : Entries) (e : JournalEntry) (es : Entries) → Keeps past (e ∷ es) → Keeps (e ∷ past) es
   keeps_rest past e es h t = keeps_one t (same_tag t e.tag) (script t) (replies t) e (own t past) (own t es) (h t)
 
   lawful_one : (t : Tag) (s : Option Statement) (r : Option Reply) (e : JournalEntry) (past es : Entries) → KeepsPart t s r past (e ∷ es) → (statement : Statement) × (s ≡ Some statement) × LawfulBy level (K t) t statement past e.call
   lawful_one t None r e past es h = cc
   lawful_one t (Some statement) r e past es h = (statement, refl, h.0)
 
-  lawful_next : (past : Entries) (e : JournalEntry) (es : Entries) → Keeps past (e ∷ es) → (statement : Statement) × (script e.tag ≡ Some statement) × LawfulBy level (K e.tag) e.tag statement (own e.tag past) e.call
+  pub lawful_next : (past : Entries) (e : JournalEntry) (es : Entries) → Keeps past (e ∷ es) → (statement : Statement) × (script e.tag ≡ Some statement) × LawfulBy level (K e.tag) e.tag statement (own e.tag past) e.call
   lawful_next past e es h =
       lawful_one e.tag (script e.tag) (replies e.tag) e (own e.tag past) (own e.tag es)
       (subst (λ (b : Bool). KeepsPart e.tag (script e.tag) (replies e.tag) (own e.tag past) (if b then e ∷ own e.tag es else own e.tag es)) (same_tag-refl e.tag) (h e.tag))
@@ -372,13 +372,13 @@ module _ (level : Level) (K : Tag → List ℕ → List ℕ → Type 0) (script 
   new_commit : (tag : Tag) (statement : Statement) (past : Entries) (name body : List ℕ) (v : ℕ) → suc v < 2 ^ 64 → MayPut level (K tag) tag statement past name body → name ≡ commit_text (suc v)
       → (k : IsCommitOf level (K tag) tag statement past name body) × (k.version ≡ v)
   new_commit tag statement past name body v small (IsFile start is fresh) h = absurd (data_is_no_commit tag start 0 (suc v) (sym is ∙ h))
-  new_commit tag statement past name body v small (IsTable spec is_table is text) h = let e : ◌≡◌ {A = ℕ} 0 (suc v) = commits_differ 0 (suc v) (omega arith) small (sym is ∙ h) in absurd (omega arith)
+  new_commit tag statement past name body v small (IsTable spec is_table is text none) h = let e : ◌≡◌ {A = ℕ} 0 (suc v) = commits_differ 0 (suc v) (omega arith) small (sym is ∙ h) in absurd (omega arith)
   new_commit tag statement past name body v small (IsCommit k) h = (k, suc_same k.version v (commits_differ (suc k.version) (suc v) k.small small (sym k.is ∙ h)))
 
   new_table : (tag : Tag) (statement : Statement) (past : Entries) (name body : List ℕ) → script tag ≡ Some statement → MayPut level (K tag) tag statement past name body → name ≡ commit_text 0
       → (spec : TableSpec) × (script tag ≡ Some (Table spec)) × (body ≡ text_of_columns (names_of spec.columns))
   new_table tag statement past name body by (IsFile start is fresh) h = absurd (data_is_no_commit tag start 0 0 (sym is ∙ h))
-  new_table tag statement past name body by (IsTable spec is_table is text) h = (spec, by ∙ ap (λ (s : Statement). Some s) is_table, text)
+  new_table tag statement past name body by (IsTable spec is_table is text none) h = (spec, by ∙ ap (λ (s : Statement). Some s) is_table, text)
   new_table tag statement past name body by (IsCommit k) h = let e : ◌≡◌ {A = ℕ} (suc k.version) 0 = commits_differ (suc k.version) 0 k.small (omega arith) (sym k.is ∙ h) in absurd (omega arith)
 
   no_operation : (spec : TableSpec) (statement : Statement) (op : Operation) → Table spec ≡ statement → operation_of statement ≡ Some op → ⊥
@@ -395,9 +395,19 @@ module _ (level : Level) (K : Tag → List ℕ → List ℕ → Type 0) (script 
           | inr other ↦ other.2 (sym (some_same q.body other.0 (sym (ap body_of old) ∙ s.got (commit_text (suc v)) other.0 (own_got tag past _ _ other.1))))
         ]
 
+    -- what stands under a commit's name that it may put is not its own
+    pub not_own : MayPut level (K tag) tag statement (own tag past) name body → (version : ℕ) → name ≡ commit_text version → (q : Put) → put_under ps name ≡ Some q → q.tag ≡ tag → ⊥
+    not_own (IsFile start is fresh) version at q there same = data_is_no_commit tag start 0 version (sym is ∙ at)
+    not_own (IsTable spec is_table is text none) version at q there same =
+        let m = s.made name q there in
+        none name q.body m.answer (subst (λ (t : Tag). PutIn (own t past) name q.body m.answer) same m.made)
+    not_own (IsCommit k) version at q there same =
+        let here : put_under ps (commit_text (suc k.version)) ≡ Some q = ap (λ (n : List ℕ). put_under ps n) (sym k.is) ∙ there in
+        not_lost k.version q here (s.commits k.version q k.small here) (sym same) k
+
     quiet : MayPut level (K tag) tag statement (own tag past) name body → (v : ℕ) (q : Put) → put_under ps (commit_text (suc v)) ≡ Some q → Committed past ps v q → tag ≡ q.tag → version_put (PutNew name body) ≡ None
     quiet (IsFile start is fresh) v q old there same = ap (λ (n : List ℕ). version_put (PutNew n body)) is ∙ data_put tag start body
-    quiet (IsTable spec is_table is text) v q old there same =
+    quiet (IsTable spec is_table is text none) v q old there same =
         absurd (no_operation spec there.statement there.op (sym is_table ∙ some_same statement there.statement (sym is_statement ∙ ap script same ∙ there.is_statement)) there.is_op)
     quiet (IsCommit k) v q old there same = absurd (not_lost v q old there same k)
 
@@ -437,7 +447,7 @@ module _ (level : Level) (K : Tag → List ℕ → List ℕ → Type 0) (script 
 
     free_by : MayPut level (K tag) tag statement (own tag past) name body → put_under ps name ≡ None
     free_by (IsFile start is fresh) = ap (λ (n : List ℕ). put_under ps n) is ∙ free_file start is fresh (put_under ps (data_text tag start 0)) refl
-    free_by (IsTable spec is_table is text) = free_log 0 is
+    free_by (IsTable spec is_table is text none) = free_log 0 is
     free_by (IsCommit k) = free_log (suc k.version) k.is
 
     there_now : put_under more name ≡ Some the_put
@@ -485,7 +495,7 @@ module _ (level : Level) (K : Tag → List ℕ → List ℕ → Type 0) (script 
       where
         mine : MayPut level (K tag) tag statement (own tag past) name body → name ≡ data_text t start 0 → tag ≡ t
         mine (IsFile i is fresh) h = same_file tag t i start (tags tag statement is_statement) right (sym is ∙ h)
-        mine (IsTable spec is_table is text) h = absurd (data_is_no_commit t start 0 0 (sym h ∙ is))
+        mine (IsTable spec is_table is text none) h = absurd (data_is_no_commit t start 0 0 (sym h ∙ is))
         mine (IsCommit k) h = absurd (data_is_no_commit t start 0 (suc k.version) (sym h ∙ k.is))
 
     add_made : (n : List ℕ) (q : Put) → put_under more n ≡ Some q → IsMadeIn (the_entry ∷ past) n q
@@ -660,7 +670,7 @@ module _ (level : Level) (K : Tag → List ℕ → List ℕ → Type 0) (script 
       at_either a u None is right = at_free a u is right
       at_either a u (Some o) is right = at_there a u o right
 
-    call_step : (tag : Tag) (call : Call) (a : Answer) (clock : ℕ) (u : Bool) (statement : Statement) → script tag ≡ Some statement → LawfulBy level (K tag) tag statement (own tag past) call → Answers a (answer_of os clock call)
+    pub call_step : (tag : Tag) (call : Call) (a : Answer) (clock : ℕ) (u : Bool) (statement : Statement) → script tag ≡ Some statement → LawfulBy level (K tag) tag statement (own tag past) call → Answers a (answer_of os clock call)
         → Stands (record { tag = tag; call = call; answer = a } ∷ past) (after_answer a u os (effect_of os clock call)) (ps ++ if_done a u (puts_of os tag clock call))
     call_step tag (Get name) a clock u statement is_statement lawful right = idle (record { tag = tag; call = Get name; answer = a }) (after_answer a u os os) (if_done a u []) (same_after a u os) (same_if_done a u) (get_shows name a right) (get_misses name a right) (λ n b h k. cc) (λ v p h k is. refl)
     call_step tag (PutNew name body) a clock u statement is_statement lawful right = at_either tag name body clock statement is_statement lawful a u (object_at os name) refl right

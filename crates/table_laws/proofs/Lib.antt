@@ -15,3 +15,6 @@ pub mod Tries
 pub mod Serial
 pub mod Folded
 pub mod Refused
+pub mod Moments
+pub mod Created
+pub mod Run

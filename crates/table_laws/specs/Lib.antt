@@ -9,3 +9,4 @@ pub mod Runs
 pub mod Laws
 pub mod Folded
 pub mod Refused
+pub mod Lawful

@@ -26,6 +26,8 @@ use Rattle.committer.specs.declared.fault.AttemptFault.TheVariants as fault
 use Rattle.committer.specs.declared.fault.Landed.{Landed}
 use Rattle.committer.specs.Attempts.{Terms, AtAttempt}
 use Rattle.txn_machine.specs.declared.judge.CommitJudge.{CommitJudge}
+use Rattle.txn_machine.specs.declared.statement.TableStatement.{TableStatement}
+use Rattle.txn_machine.specs.declared.statement.TableStatement.TheVariants as over
 use Rattle.txn_machine.specs.Judging.{Bodies, Judges}
 use Rattle.txn_machine.specs.Phases.{IsOpen, IsCutShort, Ends, Cut, Replies, called, newest, missing, AtLoad, AtFiles}
 
@@ -122,13 +124,12 @@ module _ (tag : Tag) (limit : ℕ) where
   Selects read reply s es = AtFiles reply (paths_of s.files) [] (Selected read (length s.files) reply) es
 
   -- once the table is loaded
-  abbrev pub AfterLoad : Statement → ℕ → ℕ → Option Reply → Snapshot → Entries → Type 0
-  AfterLoad (Table spec) start read reply s es = Ends reply refusal.TableThere es
-  AfterLoad (Insert rows) start read reply s es = Appends rows start read reply es
-  AfterLoad Select start read reply s es = Selects read reply s es
+  abbrev pub AfterLoad : TableStatement → ℕ → ℕ → Option Reply → Snapshot → Entries → Type 0
+  AfterLoad (over.Insert rows) start read reply s es = Appends rows start read reply es
+  AfterLoad over.Select start read reply s es = Selects read reply s es
 
   -- the newest version is loaded; the commits that are needed for it are looked for in the listing first
-  abbrev pub Loads : Option Kept → Statement → ℕ → List Listed → Option Reply → Option ℕ → Entries → Type 0
+  abbrev pub Loads : Option Kept → TableStatement → ℕ → List Listed → Option Reply → Option ℕ → Entries → Type 0
   Loads kept statement start l reply None es = Ends reply refusal.NoTable es
   Loads kept statement start l reply (Some v) es =
       MatchBool (nat_lt v version_limit)
@@ -144,8 +145,8 @@ module _ (tag : Tag) (limit : ℕ) where
 
   abbrev pub AfterListing : Option Kept → Statement → ℕ → Option Reply → List Listed → Entries → Type 0
   AfterListing kept (Table spec) start reply l es = Makes spec.columns start reply (newest l) es
-  AfterListing kept (Insert rows) start reply l es = Loads kept (Insert rows) start l reply (newest l) es
-  AfterListing kept Select start reply l es = Loads kept Select start l reply (newest l) es
+  AfterListing kept (Insert rows) start reply l es = Loads kept (over.Insert rows) start l reply (newest l) es
+  AfterListing kept Select start reply l es = Loads kept over.Select start l reply (newest l) es
 
   -- the log is listed
   abbrev pub AtLog : Option Kept → Statement → ℕ → Option Reply → Entries → Type 0

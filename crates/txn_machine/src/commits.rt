@@ -13,7 +13,7 @@ ghost use Rattle.committer.specs.Machine as attempts;
 ghost use Rattle.committer.specs.Machine.{IsReady};
 ghost use Rattle.txn_machine.specs.Machine.{reply_after, landed_after, AtAttempting, FedTo, EndsOpen, Rest, Follows, call_of, left_of};
 
-use crate::CommitJudge;
+use crate::{CommitJudge, TableStatement};
 use crate::listing::newest_version;
 use crate::stage::{Ahead, Attempting, DataPut, Files, Listing, Loading, Plan, Stage, Start};
 use committer::{AttemptFault, Attempts, Landed};
@@ -179,9 +179,9 @@ impl Plan {
         match statement {
             Statement::Table(spec) => self.makes(&spec, start, newest),
             Statement::Insert { rows } => {
-                self.loads(Statement::Insert { rows }, start, listing, newest)
+                self.loads(TableStatement::Insert { rows }, start, listing, newest)
             }
-            Statement::Select => self.loads(Statement::Select, start, listing, newest),
+            Statement::Select => self.loads(TableStatement::Select, start, listing, newest),
         }
     }
 

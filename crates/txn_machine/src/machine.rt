@@ -11,6 +11,7 @@ ghost use Rattle.txn_machine.specs.Phases.{AtLoad, AtFiles, Cut, Ends, missing, 
 ghost use Rattle.txn_machine.specs.Answered.{AtLog, AtData, rows_of_files, Sorts, Selected, Selects, Appends, AfterLoad, Loads};
 ghost use Rattle.txn_machine.specs.Machine.{Rest, Follows, call_of, left_of, ahead_of, or_no_memory, first_get};
 
+use crate::TableStatement;
 use crate::listing::missing_up_to;
 use crate::stage::{Ahead, DataPut, Files, Listing, Loading, Plan, Stage, Start};
 use crate::texts::{Unread, apply_commit, rows_of_file};
@@ -127,7 +128,7 @@ fn make_listing(
 /// The load of a version, and of so many after it, with its first call. The error is want of memory.
 fn make_loading(
     alloc: Global,
-    statement: Statement,
+    statement: TableStatement,
     start: u64,
     read: u64,
     at: u64,
@@ -197,7 +198,7 @@ impl Plan {
     /// The commit of a version is got, and so many after it.
     fn gets(
         self,
-        statement: Statement,
+        statement: TableStatement,
         start: u64,
         read: u64,
         at: u64,
@@ -375,16 +376,15 @@ impl Plan {
     }
 
     /// The table is loaded.
-    fn loaded(self, statement: Statement, start: u64, read: u64, state: State) -> Ahead
+    fn loaded(self, statement: TableStatement, start: u64, read: u64, state: State) -> Ahead
         requires { read < 2 ^ 20 }
         ensures ready { result.call ≡ call_of result.stage }
         ensures follows { (es : Entries) (reply : Option AReply) → Rest self result.stage es reply → AfterLoad self.tag self.limit statement start read reply state es }
         ensures falls { left_of self result.stage ≤ length state.files + 3 * self.limit + 10 }
     {
         match statement {
-            Statement::Table(_) => Ahead::refused(Refusal::TableThere),
-            Statement::Insert { rows } => self.appends(rows, start, read),
-            Statement::Select => self.selects(read, state),
+            TableStatement::Insert { rows } => self.appends(rows, start, read),
+            TableStatement::Select => self.selects(read, state),
         }
     }
 
@@ -450,7 +450,7 @@ impl Plan {
     /// The newest version is loaded, if the commits that are needed are listed.
     pub fn loads(
         self,
-        statement: Statement,
+        statement: TableStatement,
         start: u64,
         listing: &[Listed],
         newest: Option<u64>,

@@ -3,13 +3,13 @@ ghost use Rattle.std.specs.Prelude.{◌≡◌, IfOk};
 ghost use Rattle.edge_api.specs.Actor.{IsFit};
 ghost use Rattle.txn_machine.specs.Txn.{IsReady};
 
-use crate::{DataFile, Finish, Txn, replay};
 use edge_api::{Actor, Body, Call, Fed, MemWorld, Name, Stage as Place, Step, Tag, World};
 use op_types::{Columns, Refusal, Reply, Statement, TableSpec};
 use row_base::{Column, Datum, Kind, NoMemory, Row, Rows, Text};
 use std::alloc::{AllocError, Global};
 use std::test::Fail;
 use table_rules::{LogName, read_log_name};
+use txn_machine::{DataFile, Finish, Txn, replay};
 
 /// Notes a name: a commit by its version.
 fn note_name(text: &mut String, word: &str, name: &Name) -> Result<(), AllocError> {

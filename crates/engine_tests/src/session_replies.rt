@@ -2,11 +2,11 @@
 ghost use Rattle.std.specs.Prelude.{IfOk};
 ghost use Rattle.sessions.specs.Session.{IsReady};
 
-use crate::Session;
 use actor_core::{Till, run_piece};
 use edge_api::MemWorld;
 use op_types::{Refusal, Reply, Statement};
 use row_base::NoMemory;
+use sessions::Session;
 use std::alloc::{AllocError, Global};
 use std::test::Fail;
 
