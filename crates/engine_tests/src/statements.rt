@@ -4,8 +4,8 @@ ghost use Rattle.edge_api.specs.Actor.{IsFit};
 ghost use Rattle.txn_machine.specs.Txn.{IsReady};
 
 use edge_api::{Actor, Body, Call, Fed, MemWorld, Name, Stage as Place, Step, Tag, World};
-use op_types::{Columns, Refusal, Reply, Statement, TableSpec};
-use row_base::{Column, Datum, Kind, NoMemory, Row, Rows, Text};
+use op_types::{Refusal, Reply, Statement, TableSpec};
+use row_base::{Column, Datum, Items, Kind, NoMemory, Rows, Text};
 use std::alloc::{AllocError, Global};
 use std::test::Fail;
 use table_rules::{LogName, read_log_name};
@@ -64,8 +64,8 @@ fn turn(world: &mut MemWorld, txn: &mut Txn, text: &mut String) -> Result<(), Al
 
 /// Notes rows of numbers.
 fn note_rows(text: &mut String, rows: &Rows) -> Result<(), AllocError> {
-    for row in rows.as_slice() {
-        for datum in row.as_slice() {
+    for row in rows.iter() {
+        for datum in row {
             match datum {
                 Datum::Long(n) => write!(text, " {n}")?,
                 _ => text.push_str(" another")?,
@@ -135,19 +135,18 @@ fn table(alloc: Global) -> Result<Statement, NoMemory> {
         kind: Kind::Long,
         nullable: false,
     })?;
-    let columns = Columns::make(columns);
+    let columns = Items::from_vec(columns);
     Ok(Statement::Table(TableSpec { columns }))
 }
 
 /// Inserts a row for each number.
 fn insert(alloc: Global, numbers: &[i64]) -> Result<Statement, NoMemory> {
-    let mut rows = Vec::new(alloc);
+    let mut rows = Rows::new(alloc);
+    let mut row = Vec::new(alloc);
     for n in numbers {
-        let mut data = Vec::new(alloc);
-        data.push(Datum::Long(*n))?;
-        rows.push(Row::make(data))?;
+        row.push(Datum::Long(*n))?;
+        rows.push_from(&mut row)?;
     }
-    let rows = Rows::make(rows);
     Ok(Statement::Insert { rows })
 }
 

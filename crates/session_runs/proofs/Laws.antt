@@ -7,7 +7,7 @@ use Rattle.std.specs.List.{list_all}
 use Rattle.std.specs.Int.{w64}
 use Rattle.std.specs.Prelude.{Option, Some, None, All, slice_get, option_and_then, if◌then◌else◌, nat_lt, ℤ, pos, negsuc, FitsSigned}
 use Rattle.edge_api.specs.declared.call.Tag.{Tag}
-use Rattle.edge_api.specs.Journal.{entries_of}
+use Rattle.edge_api.specs.Journal.{same_tag, entries_of}
 use Rattle.edge_api.specs.World.{Grows}
 use Rattle.row_base.specs.declared.row.Datum.{Datum}
 use Rattle.row_base.specs.declared.row.Datum.TheVariants as datum
@@ -21,7 +21,7 @@ use Rattle.line_texts.specs.Texts.{text_of_rows, rows_of_text, is_long, is_long_
 use Rattle.line_texts.specs.Laws.{RowsReadBack}
 use Rattle.call_phases.specs.Phases.{Entries}
 use Rattle.txn_machine.specs.Answered.{Answered}
-use Rattle.actor_core.specs.Entries.{of_actor, same_tag, own}
+use Rattle.actor_core.specs.Entries.{of_actor, own}
 use Rattle.actor_core.proofs.Lists.{item_of, some_same, not_equal}
 use Rattle.actor_core.proofs.Owners.{own-append, own_among, same_tag-refl}
 use Rattle.actor_core.proofs.Pieces.{Told}

@@ -11,7 +11,7 @@ use Rattle.edge_api.specs.declared.call.Answer.{Answer}
 use Rattle.edge_api.specs.declared.call.Answer.TheVariants.{Fault, Body, Missing, Stored, Taken, Names, Gone, Time, Waited}
 use Rattle.edge_api.specs.declared.call.JournalEntry.{JournalEntry}
 use Rattle.edge_api.specs.declared.call.Object.{Object}
-use Rattle.edge_api.specs.Journal.{Objects, Moment, IsLegal, Answers, answer_of, after, after_answer, effect_of, entries_of, object_at, with_object, found, stored, stored_new}
+use Rattle.edge_api.specs.Journal.{Objects, Moment, IsLegal, Answers, same_tag, answer_of, after_moment, after_answer, effect_of, entries_of, object_at, with_object, read_answer, put_new_answer, put_new_objects}
 use Rattle.op_types.specs.declared.statement.Statement.{Statement}
 use Rattle.op_types.specs.declared.statement.Statement.TheVariants.{Table}
 use Rattle.op_types.specs.declared.statement.TableSpec.{TableSpec}
@@ -24,7 +24,7 @@ use Rattle.snapshot_replay.specs.Table.{Snapshot}
 use Rattle.call_phases.specs.Phases.{Entries}
 use Rattle.txn_machine.specs.Texts.{read_commit}
 use Rattle.txn_machine.specs.Answered.{names_of}
-use Rattle.actor_core.specs.Entries.{same_tag, own}
+use Rattle.actor_core.specs.Entries.{own}
 use Rattle.actor_core.proofs.Owners.{same_tag-refl, same_tag_is}
 use Rattle.table_laws.specs.Rows.{Row}
 use Rattle.table_laws.specs.Operations.{Operation, operation_of}
@@ -601,7 +601,7 @@ module _ (level : Level) (K : Tag → List ℕ → List ℕ → Type 0) (script 
         subst (λ (o : Objects). Stands (e ∷ past) o (ps ++ new)) (sym same)
         (subst (λ (q : List Put). Stands (e ∷ past) os q) (sym (ap (λ (q : List Put). ps ++ q) none ∙ append-nil ps)) here)
 
-    body_found : (o : Option Object) (a : Answer) (b : List ℕ) → Answers a (found o) → a ≡ Body b → body_at o ≡ Some b
+    body_found : (o : Option Object) (a : Answer) (b : List ℕ) → Answers a (read_answer o) → a ≡ Body b → body_at o ≡ Some b
     body_found o Fault b right is = cc
     body_found (Some x) (Body d) b right is = cc
     body_found None (Body d) b right is = cc
@@ -616,14 +616,14 @@ module _ (level : Level) (K : Tag → List ℕ → List ℕ → Type 0) (script 
     same_name : (m n : List ℕ) → Get m ≡ Get n → m ≡ n
     same_name m n h = cc
 
-    get_shows : (name : List ℕ) (a : Answer) → Answers a (found (object_at os name)) → (n b : List ℕ) → Get name ≡ Get n → a ≡ Body b → InPut ps n b
+    get_shows : (name : List ℕ) (a : Answer) → Answers a (read_answer (object_at os name)) → (n b : List ℕ) → Get name ≡ Get n → a ≡ Body b → InPut ps n b
     get_shows name a right n b is body = subst (λ (m : List ℕ). InPut ps m b) (same_name name n is) (s.agree name b (body_found (object_at os name) a b right body))
 
-    none_found : (o : Option Object) (a : Answer) → Answers a (found o) → a ≡ Missing → o ≡ None
+    none_found : (o : Option Object) (a : Answer) → Answers a (read_answer o) → a ≡ Missing → o ≡ None
     none_found None a right is = refl
     none_found (Some x) a right is = let none : Answers Missing (Body x.body) = subst (λ (b : Answer). Answers b (Body x.body)) is right in cc
 
-    get_misses : (name : List ℕ) (a : Answer) → Answers a (found (object_at os name)) → (v : ℕ) → Get name ≡ Get (commit_text v) → a ≡ Missing → put_under ps (commit_text v) ≡ None
+    get_misses : (name : List ℕ) (a : Answer) → Answers a (read_answer (object_at os name)) → (v : ℕ) → Get name ≡ Get (commit_text v) → a ≡ Missing → put_under ps (commit_text v) ≡ None
     get_misses name a right v is none = s.logs v (subst (λ (m : List ℕ). object_at os m ≡ None) (same_name name (commit_text v) is) (none_found (object_at os name) a right none))
 
     not_stored : (a : Answer) → Answers a Taken → a ≡ Stored → ⊥
@@ -649,7 +649,7 @@ module _ (level : Level) (K : Tag → List ℕ → List ℕ → Type 0) (script 
       object_now = record { body = body; put_at = clock }
 
       abbrev Next : Answer → Bool → Option Object → Type 0
-      Next a u o = Stands (entry_of a ∷ past) (after_answer a u os (stored_new o os name object_now)) (ps ++ if_done a u (put_if_free o put_here))
+      Next a u o = Stands (entry_of a ∷ past) (after_answer a u os (put_new_objects o os name object_now)) (ps ++ if_done a u (put_if_free o put_here))
 
       at_free : (a : Answer) (u : Bool) → object_at os name ≡ None → Answers a Stored → Next a u None
       at_free Stored u free right = added past os ps s tag name body Stored clock statement is_statement may free (λ h. cc)
@@ -666,7 +666,7 @@ module _ (level : Level) (K : Tag → List ℕ → List ℕ → Type 0) (script 
       at_there : (a : Answer) (u : Bool) (o : Object) → Answers a Taken → Next a u (Some o)
       at_there a u o right = idle (entry_of a) (after_answer a u os os) (if_done a u []) (same_after a u os) (same_if_done a u) (λ n b h k. cc) (λ v h k. cc) (λ n b h k. not_stored a right k) (quiet past os ps s tag statement is_statement name body may)
 
-      at_either : (a : Answer) (u : Bool) (o : Option Object) → object_at os name ≡ o → Answers a (stored o) → Next a u o
+      at_either : (a : Answer) (u : Bool) (o : Option Object) → object_at os name ≡ o → Answers a (put_new_answer o) → Next a u o
       at_either a u None is right = at_free a u is right
       at_either a u (Some o) is right = at_there a u o right
 
@@ -720,7 +720,7 @@ module _ (level : Level) (K : Tag → List ℕ → List ℕ → Type 0) (script 
   whole [] past os ps clock s legal keeps = subst (End past []) (sym (append-nil ps)) (record { past = past; is = refl; os = os; stands = s; keeps = keeps })
   whole (m ∷ ms) past os ps clock s legal keeps =
       let next = lawful_next past m.entry (entries_of ms) keeps in
-      let here = call_step past os ps s m.entry.tag m.entry.call m.entry.answer m.clock m.took_effect next.0 next.1 next.2 legal.1 in
-      let rest = whole ms (m.entry ∷ past) (after os m) (ps ++ puts_at os m) m.clock here legal.2 (keeps_rest past m.entry (entries_of ms) keeps) in
-      subst (End past (m.entry ∷ entries_of ms)) (append_assoc ps (puts_at os m) (history (after os m) ms))
+      let here = call_step past os ps s m.entry.tag m.entry.call m.entry.answer m.clock m.took_effect next.0 next.1 next.2 legal.2 in
+      let rest = whole ms (m.entry ∷ past) (after_moment os m) (ps ++ puts_at os m) m.clock here legal.3 (keeps_rest past m.entry (entries_of ms) keeps) in
+      subst (End past (m.entry ∷ entries_of ms)) (append_assoc ps (puts_at os m) (history (after_moment os m) ms))
       (record { past = rest.past; is = rest.is; os = rest.os; stands = rest.stands; keeps = rest.keeps })

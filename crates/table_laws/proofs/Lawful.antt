@@ -7,6 +7,7 @@ use Rattle.edge_api.specs.declared.call.Call.TheVariants.{Get, PutNew, Put as Re
 use Rattle.edge_api.specs.declared.call.Answer.{Answer}
 use Rattle.edge_api.specs.declared.call.Answer.TheVariants.{Fault, Missing, Taken}
 use Rattle.row_base.specs.declared.row.ScannedFile.{ScannedFile}
+use Rattle.row_base.specs.Sorting.{Sorts}
 use Rattle.op_types.specs.declared.statement.Statement.{Statement}
 use Rattle.op_types.specs.declared.statement.TableSpec.{TableSpec}
 use Rattle.op_types.specs.declared.statement.Statement.TheVariants.{Table}
@@ -18,7 +19,7 @@ use Rattle.line_texts.specs.Texts.{text_of_columns}
 use Rattle.snapshot_replay.specs.Table.{Add, Commit, Snapshot, paths_of}
 use Rattle.call_phases.specs.Phases.{Entries}
 use Rattle.txn_machine.specs.Texts.{read_commit, read_file}
-use Rattle.txn_machine.specs.Answered.{names_of, rows_of_files, Sorts}
+use Rattle.txn_machine.specs.Answered.{names_of, rows_of_files}
 use Rattle.table_laws.specs.Rows.{Row}
 use Rattle.table_laws.specs.Operations.{Operation, operation_of, scope_of, got_files, removed_files}
 use Rattle.table_laws.specs.Effects.{may_match, new_rows, effect_of}

@@ -8,7 +8,7 @@ use Rattle.edge_api.specs.declared.call.Call.TheVariants.{PutNew}
 use Rattle.edge_api.specs.declared.call.Answer.{Answer}
 use Rattle.edge_api.specs.declared.call.Answer.TheVariants.{Fault, Body, Missing, Stored, Taken, Names, Gone, Time, Waited}
 use Rattle.edge_api.specs.declared.call.Object.{Object}
-use Rattle.edge_api.specs.Journal.{Objects, Moment, IsLegal, Answers, answer_of, after, entries_of, object_at, stored}
+use Rattle.edge_api.specs.Journal.{Objects, Moment, IsLegal, Answers, answer_of, after_moment, entries_of, object_at, put_new_answer}
 use Rattle.op_types.specs.declared.statement.Statement.{Statement}
 use Rattle.op_types.specs.declared.reply.Reply.{Reply}
 use Rattle.table_rules.specs.Names.{commit_text}
@@ -43,16 +43,16 @@ module _ (level : Level) (K : Tag → List ℕ → List ℕ → Type 0) (script 
       record { past = past; os = os; clock = clock; stands = subst (Stands level K script replies tags past os) (sym (append-nil ps)) s; legal = legal; keeps = keeps; whole = refl }
   stands_at (m ∷ before) rest past os ps clock s legal keeps =
       let next = lawful_next level K script replies tags past m.entry (entries_of (before ++ rest)) keeps in
-      let here = call_step level K script replies tags past os ps s m.entry.tag m.entry.call m.entry.answer m.clock m.took_effect next.0 next.1 next.2 legal.1 in
-      let r = stands_at before rest (m.entry ∷ past) (after os m) (ps ++ puts_at os m) m.clock here legal.2 (keeps_rest level K script replies tags past m.entry (entries_of (before ++ rest)) keeps) in
+      let here = call_step level K script replies tags past os ps s m.entry.tag m.entry.call m.entry.answer m.clock m.took_effect next.0 next.1 next.2 legal.2 in
+      let r = stands_at before rest (m.entry ∷ past) (after_moment os m) (ps ++ puts_at os m) m.clock here legal.3 (keeps_rest level K script replies tags past m.entry (entries_of (before ++ rest)) keeps) in
       record {
         past = r.past;
         os = r.os;
         clock = r.clock;
-        stands = subst (Stands level K script replies tags r.past r.os) (append_assoc ps (puts_at os m) (history (after os m) before)) r.stands;
+        stands = subst (Stands level K script replies tags r.past r.os) (append_assoc ps (puts_at os m) (history (after_moment os m) before)) r.stands;
         legal = r.legal;
         keeps = r.keeps;
-        whole = ap (λ (l : List Put). puts_at os m ++ l) r.whole ∙ sym (append_assoc (puts_at os m) (history (after os m) before) (history r.os rest));
+        whole = ap (λ (l : List Put). puts_at os m ++ l) r.whole ∙ sym (append_assoc (puts_at os m) (history (after_moment os m) before) (history r.os rest));
       }
 
   -- the put of a commit at a moment
@@ -63,16 +63,16 @@ module _ (level : Level) (K : Tag → List ℕ → List ℕ → Type 0) (script 
     abbrev Decided : Type 0
     Decided = CommitPut (history [] before) (history [] (before ++ m ∷ rest)) v body m
 
-    right : Answers m.entry.answer (stored (object_at r.os (commit_text v)))
-    right = subst (λ (c : Call). Answers m.entry.answer (answer_of r.os m.clock c)) is (r.legal).1
+    right : Answers m.entry.answer (put_new_answer (object_at r.os (commit_text v)))
+    right = subst (λ (c : Call). Answers m.entry.answer (answer_of r.os m.clock c)) is (r.legal).2
 
     put_here : object_at r.os (commit_text v) ≡ None → puts_of r.os m.entry.tag m.clock m.entry.call ≡ the_put ∷ []
     put_here free = ap (λ (c : Call). puts_of r.os m.entry.tag m.clock c) is ∙ ap (λ (o : Option Object). put_if_free o the_put) free
 
     wins : object_at r.os (commit_text v) ≡ None → put_under (history [] before) (commit_text v) ≡ None → puts_at r.os m ≡ the_put ∷ [] → (m.entry.answer ≡ Stored) ⊎ (m.entry.answer ≡ Fault) → Decided
     wins object free puts answer =
-        let all : history [] (before ++ m ∷ rest) ≡ history [] before ++ the_put ∷ history (after r.os m) rest = r.whole ∙ ap (λ (l : List Put). history [] before ++ (l ++ history (after r.os m) rest)) puts in
-        Wins free (ap (λ (l : List Put). put_under l (commit_text v)) all ∙ put_under-behind (history [] before) (history (after r.os m) rest) the_put (commit_text v) refl free) answer
+        let all : history [] (before ++ m ∷ rest) ≡ history [] before ++ the_put ∷ history (after_moment r.os m) rest = r.whole ∙ ap (λ (l : List Put). history [] before ++ (l ++ history (after_moment r.os m) rest)) puts in
+        Wins free (ap (λ (l : List Put). put_under l (commit_text v)) all ∙ put_under-behind (history [] before) (history (after_moment r.os m) rest) the_put (commit_text v) refl free) answer
 
     at_free : (a : Answer) → m.entry.answer ≡ a → Answers a Stored → object_at r.os (commit_text v) ≡ None → put_under (history [] before) (commit_text v) ≡ None → Decided
     at_free Stored at answers object free = wins object free (ap (λ (a : Answer). if_done a m.took_effect (puts_of r.os m.entry.tag m.clock m.entry.call)) at ∙ put_here object) (inl at)
@@ -107,7 +107,7 @@ module _ (level : Level) (K : Tag → List ℕ → List ℕ → Type 0) (script 
     pub decided : Decided
     decided = by (object_at r.os (commit_text v)) refl right
       where
-        by : (o : Option Object) → object_at r.os (commit_text v) ≡ o → Answers m.entry.answer (stored o) → Decided
+        by : (o : Option Object) → object_at r.os (commit_text v) ≡ o → Answers m.entry.answer (put_new_answer o) → Decided
         by None at answers = at_free m.entry.answer refl answers at ((r.stands).logs v at)
         by (Some o) at answers =
             let next = lawful_next level K script replies tags r.past m.entry (entries_of rest) r.keeps in

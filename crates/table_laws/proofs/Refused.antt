@@ -12,7 +12,8 @@ use Rattle.op_types.specs.declared.reply.Reply.TheVariants.{Refused}
 use Rattle.table_rules.specs.Names.{commit_text}
 use Rattle.table_rules.specs.Told.{IsTag}
 use Rattle.call_phases.specs.Phases.{Entries}
-use Rattle.actor_core.specs.Entries.{same_tag, own}
+use Rattle.edge_api.specs.Journal.{same_tag}
+use Rattle.actor_core.specs.Entries.{own}
 use Rattle.table_laws.specs.Conflicts.{Level, Serializable}
 use Rattle.table_laws.specs.History.{Put, history, put_under, body_of}
 use Rattle.txn_machine.specs.Answered.{Kept}

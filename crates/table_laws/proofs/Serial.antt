@@ -8,6 +8,7 @@ use Rattle.std.proofs.lemmas.Slice.Eq.{bytes_eq-Decides}
 use Rattle.edge_api.specs.declared.call.Tag.{Tag}
 use Rattle.edge_api.specs.Journal.{Objects, Moment, IsLegal, entries_of}
 use Rattle.row_base.specs.declared.row.ScannedFile.{ScannedFile}
+use Rattle.row_base.specs.Sorting.{Sorts}
 use Rattle.row_base.specs.Bags.{count_of}
 use Rattle.row_base.proofs.Bags.{count_of-append}
 use Rattle.op_types.specs.declared.statement.Statement.{Statement}
@@ -22,7 +23,7 @@ use Rattle.line_texts.proofs.Laws.{columns_read_back}
 use Rattle.snapshot_replay.specs.Table.{Add, Action, Removes, Adds, Commit, Snapshot, without_path, placed, reconciled, table_commit, paths_of, snapshot_at}
 use Rattle.call_phases.specs.Phases.{Entries}
 use Rattle.txn_machine.specs.Texts.{read_commit, read_file}
-use Rattle.txn_machine.specs.Answered.{Kept, Sorts, names_of, rows_of_files}
+use Rattle.txn_machine.specs.Answered.{Kept, names_of, rows_of_files}
 use Rattle.txn_machine.proofs.OpenEnds.{length-paths_of}
 use Rattle.actor_core.specs.Entries.{own}
 use Rattle.table_laws.specs.Rows.{Row}

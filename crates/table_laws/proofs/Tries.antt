@@ -6,7 +6,8 @@ use Rattle.std.specs.Str.{bytes_eq}
 use Rattle.std.proofs.lemmas.Slice.Eq.{bytes_eq-Decides}
 use Rattle.edge_api.specs.declared.call.Tag.{Tag}
 use Rattle.call_phases.specs.Phases.{Entries}
-use Rattle.actor_core.specs.Entries.{same_tag, own}
+use Rattle.edge_api.specs.Journal.{same_tag}
+use Rattle.actor_core.specs.Entries.{own}
 use Rattle.table_laws.specs.History.{Put, put_under}
 use Rattle.table_laws.specs.Runs.{version_put, with_version, versions_put}
 use Rattle.table_laws.specs.Laws.{versions_from}

@@ -5,9 +5,9 @@ use Rattle.edge_api.specs.declared.call.Tag.{Tag}
 use Rattle.edge_api.specs.declared.call.Call.{Call}
 use Rattle.edge_api.specs.declared.call.Call.TheVariants.{Get, PutNew, Put as Replace, List as ListNames, Delete, Now, Wait}
 use Rattle.edge_api.specs.declared.call.Answer.{Answer}
-use Rattle.edge_api.specs.declared.call.Answer.TheVariants.{Fault, Body, Missing, Stored, Taken, Names, Gone, Time, Waited}
+use Rattle.edge_api.specs.declared.call.Answer.TheVariants.{Fault}
 use Rattle.edge_api.specs.declared.call.Object.{Object}
-use Rattle.edge_api.specs.Journal.{Objects, Moment, after, object_at}
+use Rattle.edge_api.specs.Journal.{Objects, Moment, after_moment, object_at}
 use Rattle.table_rules.specs.Names.{commit_text}
 use Rattle.snapshot_replay.specs.Table.{Commit}
 use Rattle.txn_machine.specs.Texts.{read_commit, read_file}
@@ -38,22 +38,16 @@ puts_of os tag clock (Wait time) = []
 -- a call that was answered by a fault took effect or didn't
 abbrev pub if_done : Answer → Bool → List Put → List Put
 if_done Fault took_effect ps = if took_effect then ps else []
-if_done (Body b) took_effect ps = ps
-if_done Missing took_effect ps = ps
-if_done Stored took_effect ps = ps
-if_done Taken took_effect ps = ps
-if_done (Names l) took_effect ps = ps
-if_done Gone took_effect ps = ps
-if_done (Time t) took_effect ps = ps
-if_done Waited took_effect ps = ps
+if_done answer took_effect ps = ps
 
+-- what a moment puts
 abbrev pub puts_at : Objects → Moment → List Put
 puts_at os m = if_done m.entry.answer m.took_effect (puts_of os m.entry.tag m.clock m.entry.call)
 
 -- the puts that took effect, in order
 abbrev pub history : Objects → List Moment → List Put
 history os [] = []
-history os (m ∷ ms) = puts_at os m ++ history (after os m) ms
+history os (m ∷ ms) = puts_at os m ++ history (after_moment os m) ms
 
 -- the put under a name. Its body counts though the object may be gone
 abbrev pub put_under : List Put → List ℕ → Option Put

@@ -5,6 +5,7 @@ use Rattle.edge_api.specs.declared.call.Tag.{Tag}
 use Rattle.edge_api.specs.declared.call.Call.TheVariants.{PutNew}
 use Rattle.edge_api.specs.declared.call.Answer.TheVariants.{Fault, Stored, Taken}
 use Rattle.edge_api.specs.Journal.{Moment, entries_of}
+use Rattle.row_base.specs.Sorting.{Sorts}
 use Rattle.op_types.specs.declared.statement.Statement.{Statement}
 use Rattle.op_types.specs.declared.statement.Statement.TheVariants.{Table}
 use Rattle.op_types.specs.declared.statement.TableSpec.{TableSpec}
@@ -16,7 +17,7 @@ use Rattle.line_texts.specs.Texts.{text_of_columns, is_word}
 use Rattle.snapshot_replay.specs.Table.{Add, Commit, table_commit}
 use Rattle.call_phases.specs.Phases.{Entries}
 use Rattle.txn_machine.specs.Texts.{read_commit, read_file}
-use Rattle.txn_machine.specs.Answered.{Sorts, names_of}
+use Rattle.txn_machine.specs.Answered.{names_of}
 use Rattle.actor_core.specs.Entries.{own}
 use Rattle.table_laws.specs.Rows.{Row}
 use Rattle.table_laws.specs.Operations.{Operation, operation_of, inserted}

@@ -1,13 +1,12 @@
 -- Which replies a statement may give to the entries that it made.
 use Rattle.std.specs.Prelude.{◌≡◌, ◌⊎◌, ℕ, zero, suc, ◌+◌, ◌-◌, ◌*◌, ◌^◌, nat_lt, Bool, true, false, if◌then◌else◌, List, [], ◌∷◌, ◌++◌, length, Option, Some, None, MatchOption, MatchBool, Result, Ok, Err}
-use Rattle.std.specs.List.Sorted.{IsSorted, IsPermutation}
 use Rattle.edge_api.specs.declared.call.Tag.{Tag}
 use Rattle.edge_api.specs.declared.call.Listed.{Listed}
 use Rattle.edge_api.specs.declared.call.CallKind.TheVariants as kind
 use Rattle.row_base.specs.declared.row.Datum.{Datum}
 use Rattle.row_base.specs.declared.row.ScannedFile.{ScannedFile}
 use Rattle.row_base.specs.declared.schema.Column.{Column}
-use Rattle.row_base.specs.RowOrder.{row_cmp}
+use Rattle.row_base.specs.Sorting.{Sorts}
 use Rattle.op_types.specs.declared.statement.Statement.{Statement}
 use Rattle.op_types.specs.declared.statement.Statement.TheVariants.{Table, Insert, Select}
 use Rattle.op_types.specs.declared.refusal.Refusal.{Refusal}
@@ -31,7 +30,7 @@ use Rattle.txn_machine.specs.declared.statement.TableStatement.TheVariants as ov
 use Rattle.txn_machine.specs.Judging.{Bodies, Judges}
 use Rattle.txn_machine.specs.Phases.{IsOpen, IsCutShort, Ends, Cut, Replies, called, newest, missing, AtLoad, AtFiles}
 
--- how long a commit may take, doubled, in milliseconds: one week
+-- the retention of a table, in milliseconds: one week. A commit may take half of it
 abbrev pub retention : ℕ
 retention = 604800000
 
@@ -54,11 +53,6 @@ refusal_of (fault.TooLarge bytes) = refusal.TooLarge bytes
 abbrev pub rows_of_files : List ScannedFile → List (List Datum)
 rows_of_files [] = []
 rows_of_files (f ∷ fs) = f.rows ++ rows_of_files fs
-
--- these rows in order: each as often, and none before a lesser one
-pub record Sorts (rows sorted : List (List Datum)) : Type 0 where
-  pub same : IsPermutation rows sorted
-  pub order : IsSorted row_cmp sorted
 
 -- the reply of a select: the rows of the files got, in order
 abbrev pub IsSelected : ℕ → ℕ → List ScannedFile → Reply → Type 0

@@ -1,6 +1,6 @@
 -- Where a statement stands between two calls, and what is still to come.
 use Rattle.std.specs.Prelude.{◌≡◌, ◌⊎◌, ℕ, suc, ◌+◌, ◌*◌, length, Bool, true, false, List, [], ◌∷◌, ◌++◌, Option, Some, None, Result, Ok, Err}
-use Rattle.std.specs.declared.alloc.AllocError.{AllocError}
+use Rattle.row_base.specs.declared.memory.NoMemory.{NoMemory}
 use Rattle.edge_api.specs.declared.call.Tag.{Tag}
 use Rattle.edge_api.specs.declared.call.Call.{Call}
 use Rattle.edge_api.specs.declared.call.Call.TheVariants.{Get, PutNew, List as ListNames, Now}
@@ -98,6 +98,6 @@ abbrev pub ahead_of : Stage → Ahead
 ahead_of s = record { stage = s; call = call_of s }
 
 -- what was made, or the end for want of memory
-abbrev pub or_no_memory : Result Ahead AllocError → Ahead
+abbrev pub or_no_memory : Result Ahead NoMemory → Ahead
 or_no_memory (Ok ahead) = ahead
 or_no_memory (Err e) = ahead_of (stage.Done (Refused refusal.NoMemory))

@@ -25,7 +25,7 @@ use snapshot_replay::State;
 use std::alloc::Global;
 use table_rules::log_prefix;
 
-/// How long a commit may take, doubled, in milliseconds: one week.
+/// The retention of a table, in milliseconds: one week. A commit may take half of it.
 const RETENTION: u64 = 604_800_000;
 
 /// The refusal of a statement whose attempts failed so.
