@@ -10,6 +10,7 @@ use Rattle.report.specs.Replies.{printed}
 use Rattle.session_runs.specs.Run.{Program, Runs, IsSerial}
 use Rattle.session_runs.specs.Order.{FollowsItems}
 
+-- the table of a header
 abbrev pub table_in : Header → TableSpec
 table_in (Table spec) = spec
 
@@ -17,6 +18,7 @@ table_in (Table spec) = spec
 abbrev pub program_of : Script → Program
 program_of s = record { table = table_in s.header; sessions = map (λ x. x.statements) s.sessions; limit = s.attempts; items = s.items }
 
+-- the names of a script's sessions
 abbrev pub names_in : Script → List (List ℕ)
 names_in s = map (λ x. x.name) s.sessions
 

@@ -17,10 +17,12 @@ pub record Spot : Type 0 where
   pub actor : ℕ
   pub progress : Progress
 
+-- where an actor stands, by what is under way
 abbrev pub place_in : Option Under → Place
 place_in None = place.Done
 place_in (Some u) = u.place
 
+-- where an actor stands at its spot
 abbrev pub place_at : Spot → Place
 place_at s = place_in s.progress.now
 
@@ -58,5 +60,6 @@ pub record InItsOrder (p : Program) (before after : Option (List JournalEntry)) 
   pub others_follow : FollowsSchedule Passes place_at p.items middle after others others_end
   pub replied : replies ≡ replies_at first_end ∷ map replies_at others_end
 
+-- the calls of the program are made in the order of its items, and the replies are those given on the way
 unfoldable pub FollowsItems : Program → Option (List JournalEntry) → Option (List JournalEntry) → List (List Reply) → Type 0
 FollowsItems p before after replies = InItsOrder p before after replies

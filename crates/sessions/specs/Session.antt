@@ -46,7 +46,8 @@ AllAnswered killed [] es rs = (es ≡ []) × (rs ≡ [])
 AllAnswered killed (p ∷ ps) es [] = ⊥
 AllAnswered killed (p ∷ ps) es (r ∷ rs) =
     ((killed ≡ true) × IsKilled p.tag r rs es × Answered p.tag p.limit None p.statement es None)
-    ⊎ ((own : Entries) × (rest : Entries) × (es ≡ own ++ rest) × AllTagged p.tag own × Answered p.tag p.limit None p.statement own (Some r) × AllAnswered killed ps rest rs)
+    ⊎ ((own : Entries) × (rest : Entries) × (es ≡ own ++ rest) × AllTagged p.tag own
+      × Answered p.tag p.limit None p.statement own (Some r) × AllAnswered killed ps rest rs)
 
 -- whether a session with so many entries is killed: where it has the number after which it is to be, and no session has more
 abbrev pub Stops : Option ℕ → ℕ → Bool → Type 0
@@ -92,7 +93,8 @@ place_now (Some t) = place_of t.stage
 abbrev pub progress_of : Session → Progress
 progress_of s = record { now = under s.current; replies = s.replies.items }
 
--- An event leads from one session to the other, by what is under way and the replies. With its entry in front, what remains of the new one is what remains of the old one
+-- An event leads from one session to the other, by what is under way and the replies. With its entry in front, what remains of the new one is what remains
+-- of the old one
 pub record Goes (old : Session) (event : Event) (new : Session) : Type 0 where
   pub led : IsLed (progress_of old) event (progress_of new)
   pub leads : (es : Entries) (all : List Reply) → Remains new es all → Remains old (entries_of_events (event ∷ []) ++ es) all
@@ -105,7 +107,8 @@ IsReadyNow (Some t) actor later = txn.IsReady t × (t.plan.tag.actor ≡ actor) 
 -- the statement under way has the number behind so many replies and before that of the next one, and has no more calls left than a new one
 abbrev pub IsCounted : Option Txn → ℕ → ℕ → Type 0
 IsCounted None replies next = Unit {0}
-IsCounted (Some t) replies next = (t.plan.tag.statement + 1 ≡ next) × (t.plan.tag.statement ≡ replies + 1) × (left_of t.plan t.stage ≤ 3 * t.plan.limit + 2097200)
+IsCounted (Some t) replies next = (t.plan.tag.statement + 1 ≡ next) × (t.plan.tag.statement ≡ replies + 1)
+    × (left_of t.plan t.stage ≤ 3 * t.plan.limit + 2097200)
 
 -- how many statements are under way
 abbrev pub count_now : Option Txn → ℕ
@@ -118,6 +121,7 @@ IsAlive None now = Unit {0}
 IsAlive (Some n) None = Unit {0}
 IsAlive (Some n) (Some t) = 0 < n
 
+-- a session that is to be killed has calls left
 abbrev pub HasCalls : Option ℕ → Type 0
 HasCalls None = Unit {0}
 HasCalls (Some n) = 0 < n
@@ -153,6 +157,7 @@ pub record IsIdle (s : Session) : Type 0 where
   pub first : s.next ≡ 1
   pub numbers : s.next + length s.later.items < 4294967296
 
+-- the statement under way has asked
 abbrev pub AsksNow : Option Txn → Tag → Call → Option Txn → Type 0
 AsksNow None tag call new = ⊥
 AsksNow (Some old) tag call None = ⊥
@@ -169,6 +174,7 @@ pub record Asks (old : Session) (tag : Tag) (call : Call) (new : Session) : Type
   pub replies : new.replies ≡ old.replies
   pub kill : new.kill ≡ old.kill
 
+-- how many answers the statement under way takes at most
 abbrev pub left_now : Option Txn → ℕ
 left_now None = 0
 left_now (Some t) = left_of t.plan t.stage

@@ -15,6 +15,7 @@ pub record Under : Type 0 where
   pub tag : Tag
   pub place : Place
 
+-- the statement under way, by its tag and its place
 abbrev pub under : Option Txn → Option Under
 under None = None
 under (Some t) = Some (record { tag = t.plan.tag; place = place_of t.stage })
@@ -62,8 +63,10 @@ IsOver tag replies reply new = IsReplied replies reply new.replies × IsBetween 
 -- Then the statement stays, or it is over and has its reply. Want of memory makes no entry: the statement is over, and its reply says so
 abbrev pub IsLedFrom : Option Under → List Reply → Event → Progress → Type 0
 IsLedFrom None replies event new = ⊥
-IsLedFrom (Some u) replies (Made e) new = (e.tag ≡ u.tag) × IsCallAt u.place e.call × (Stays u.tag replies new ⊎ ((reply : Reply) × IsOver u.tag replies reply new))
+IsLedFrom (Some u) replies (Made e) new = (e.tag ≡ u.tag) × IsCallAt u.place e.call
+    × (Stays u.tag replies new ⊎ ((reply : Reply) × IsOver u.tag replies reply new))
 IsLedFrom (Some u) replies Wanting new = IsOver u.tag replies (Refused NoMemory) new
 
+-- an event leads on, by what is under way and the replies so far
 abbrev pub IsLed : Progress → Event → Progress → Type 0
 IsLed old event new = IsLedFrom old.now old.replies event new

@@ -4,6 +4,7 @@ use Rattle.snapshot_replay.specs.Table.{Action, Removes, Adds, Commit}
 use Rattle.table_laws.specs.Files.{has_path}
 use Rattle.table_laws.specs.Operations.{Operation, is_insert, is_change}
 
+-- how strict a table is with rows that came after the version that was read (Delta Lake, isolation levels)
 pub data Level : Type 0 where
   Serializable : Level
   WriteSerializable : Level
@@ -26,11 +27,13 @@ first_removed ps [] = None
 first_removed ps (Removes p ∷ ls) = if has_path ps p then Some p else first_removed ps ls
 first_removed ps (Adds a ∷ ls) = first_removed ps ls
 
+-- whether no line takes a file out
 abbrev pub no_removes : List Action → Bool
 no_removes [] = true
 no_removes (Removes p ∷ ls) = false
 no_removes (Adds a ∷ ls) = no_removes ls
 
+-- whether a commit read nothing of the table and only adds files
 abbrev pub is_blind_append : Commit → Bool
 is_blind_append t = t.blind && no_removes t.lines
 
@@ -39,10 +42,12 @@ abbrev pub counts_at : Level → Commit → Bool
 counts_at Serializable t = t.changes
 counts_at WriteSerializable t = t.changes && not (is_blind_append t)
 
+-- a clash over the path, where there is one
 abbrev pub clash_if : (List ℕ → FileClash) → Option (List ℕ) → Option FileClash → Option FileClash
 clash_if c None rest = rest
 clash_if c (Some p) rest = Some (c p)
 
+-- what is there where the test holds
 abbrev pub where_true : {A : Type 0} → Bool → Option A → Option A
 where_true true o = o
 where_true false o = None

@@ -19,6 +19,7 @@ new_rows (Insert rows) view fs = rows
 new_rows (Change P g r) view fs = others P (rows_in view (removed_files view may_match (Change P g r) fs)) ++ g (filter P (rows_in view (got_files may_match (Change P g r) fs)))
 new_rows (Compact pick) view fs = rows_in view (removed_files view may_match (Compact pick) fs)
 
+-- the data file of a statement that started then
 abbrev pub new_file : Tag → ℕ → Add
 new_file tag start = record { path = data_text tag start 0; stats = [] }
 

@@ -22,4 +22,5 @@ folded script ps (suc v) = done_by (operation_by (statement_of script (put_under
 
 -- each version's rows are those
 abbrev pub RowsAreFolded : (Tag → Option Statement) → List Moment → Type 0
-RowsAreFolded script moments = (v : ℕ) → v < 2 ^ 64 → IsCommitted (history [] moments) v → SameRows (rows_at (history [] moments) v) (folded script (history [] moments) v)
+RowsAreFolded script moments = (v : ℕ) → v < 2 ^ 64 → IsCommitted (history [] moments) v
+    → SameRows (rows_at (history [] moments) v) (folded script (history [] moments) v)

@@ -21,6 +21,7 @@ pub record Put : Type 0 where
   pub body : List ℕ
   pub at : ℕ
 
+-- a put, where its name is free
 abbrev pub put_if_free : Option Object → Put → List Put
 put_if_free None p = p ∷ []
 put_if_free (Some there) p = []
@@ -54,10 +55,12 @@ abbrev pub put_under : List Put → List ℕ → Option Put
 put_under [] name = None
 put_under (p ∷ ps) name = if bytes_eq p.name name then Some p else put_under ps name
 
+-- the body of a put
 abbrev pub body_of : Option Put → Option (List ℕ)
 body_of None = None
 body_of (Some p) = Some p.body
 
+-- no items, where there is no list
 abbrev pub or_none : {A : Type 0} → Option (List A) → List A
 or_none None = []
 or_none (Some xs) = xs
@@ -79,5 +82,6 @@ rows_of ps path = or_none (option_and_then read_file (body_of (put_under ps path
 abbrev pub rows_at : List Put → ℕ → List Row
 rows_at ps version = rows_in (rows_of ps) (live_by (commit_at ps) version)
 
+-- the version's commit was put
 abbrev pub IsCommitted : List Put → ℕ → Type 0
 IsCommitted ps version = IsSome (put_under ps (commit_text version))

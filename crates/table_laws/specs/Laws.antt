@@ -64,7 +64,8 @@ pub record Step (level : Level) (script : Tag → Option Statement) (journal : E
 
 -- each version is the one before with one statement's operation done. Versions are so contiguous from 0
 abbrev pub VersionsAreSerial : Level → (Tag → Option Statement) → List Moment → Type 0
-VersionsAreSerial level script moments = (v : ℕ) → suc v < 2 ^ 64 → IsCommitted (history [] moments) (suc v) → Step level script (entries_of moments) (history [] moments) v
+VersionsAreSerial level script moments = (v : ℕ) → suc v < 2 ^ 64 → IsCommitted (history [] moments) (suc v)
+    → Step level script (entries_of moments) (history [] moments) v
 
 -- version 0 has no rows
 abbrev pub FirstIsEmpty : List Moment → Type 0
@@ -77,6 +78,7 @@ pub record MakesTable (script : Tag → Option Statement) (p : Put) : Type 0 whe
   pub text : p.body ≡ text_of_columns (names_of spec.columns)
   pub reads : list_all is_word (names_of spec.columns) ≡ true → read_commit 0 p.body ≡ Some (table_commit (names_of spec.columns))
 
+-- whoever put version 0 made a table
 abbrev pub FirstMakesTable : (Tag → Option Statement) → List Moment → Type 0
 FirstMakesTable script moments = (p : Put) → put_under (history [] moments) (commit_text 0) ≡ Some p → MakesTable script p
 
@@ -92,6 +94,7 @@ CommitsRead moments = (v k : ℕ) → suc v < 2 ^ 64 → IsCommitted (history []
 abbrev pub FileReads : List Put → List ℕ → Type 0
 FileReads ps path = (p : Put) × (put_under ps path ≡ Some p) × (rows : List Row) × (read_file p.body ≡ Some rows)
 
+-- each of these files reads
 abbrev pub AllFilesRead : List Put → List Add → Type 0
 AllFilesRead ps [] = Unit {0}
 AllFilesRead ps (a ∷ fs) = FileReads ps a.path × AllFilesRead ps fs
@@ -103,7 +106,8 @@ FilesRead moments = (v : ℕ) → v < 2 ^ 64 → IsCommitted (history [] moments
 -- versions that one statement committed are one
 abbrev pub CommitsOnce : List Moment → Type 0
 CommitsOnce moments =
-    (v w : ℕ) (p q : Put) → v < 2 ^ 64 → w < 2 ^ 64 → put_under (history [] moments) (commit_text v) ≡ Some p → put_under (history [] moments) (commit_text w) ≡ Some q → p.tag ≡ q.tag → v ≡ w
+    (v w : ℕ) (p q : Put) → v < 2 ^ 64 → w < 2 ^ 64 → put_under (history [] moments) (commit_text v) ≡ Some p
+        → put_under (history [] moments) (commit_text w) ≡ Some q → p.tag ≡ q.tag → v ≡ w
 
 -- so many versions, from one on
 abbrev pub versions_from : ℕ → ℕ → List ℕ
@@ -130,20 +134,24 @@ pub record Lands (journal : Entries) (ps : List Put) (version : ℕ) (by : Put) 
 
 -- each commit above version 0 landed so
 abbrev pub CommitsLand : List Moment → Type 0
-CommitsLand moments = (v : ℕ) (by : Put) → suc v < 2 ^ 64 → put_under (history [] moments) (commit_text (suc v)) ≡ Some by → Lands (entries_of moments) (history [] moments) (suc v) by
+CommitsLand moments = (v : ℕ) (by : Put) → suc v < 2 ^ 64 → put_under (history [] moments) (commit_text (suc v)) ≡ Some by
+    → Lands (entries_of moments) (history [] moments) (suc v) by
 
 -- what became of a put of a version's commit, by the puts that took effect before it and by all. The version was free and is the statement's; or another
 -- statement had committed it; or it was free and the put took no effect, which the store answered by a fault
 pub data CommitPut (before all : List Put) (version : ℕ) (body : List ℕ) (m : Moment) : Type 0 where
-  Wins : put_under before (commit_text version) ≡ None → put_under all (commit_text version) ≡ Some (record { tag = m.entry.tag; name = commit_text version; body = body; at = m.clock })
+  Wins : put_under before (commit_text version) ≡ None
+      → put_under all (commit_text version) ≡ Some (record { tag = m.entry.tag; name = commit_text version; body = body; at = m.clock })
       → (m.entry.answer ≡ Stored) ⊎ (m.entry.answer ≡ Fault) → CommitPut before all version body m
-  Loses : (winner : Put) → put_under before (commit_text version) ≡ Some winner → winner.tag ≢ m.entry.tag → (m.entry.answer ≡ Taken) ⊎ (m.entry.answer ≡ Fault) → CommitPut before all version body m
+  Loses : (winner : Put) → put_under before (commit_text version) ≡ Some winner → winner.tag ≢ m.entry.tag
+      → (m.entry.answer ≡ Taken) ⊎ (m.entry.answer ≡ Fault) → CommitPut before all version body m
   Fails : put_under before (commit_text version) ≡ None → m.entry.answer ≡ Fault → m.took_effect ≡ false → CommitPut before all version body m
 
 -- each put of a commit wins, loses or fails at its own moment, whether its statement ever commits or not
 abbrev pub CommitPutsAreDecided : List Moment → Type 0
 CommitPutsAreDecided moments =
-    (before after : List Moment) (m : Moment) (version : ℕ) (body : List ℕ) → moments ≡ before ++ m ∷ after → version < 2 ^ 64 → m.entry.call ≡ PutNew (commit_text version) body
+    (before after : List Moment) (m : Moment) (version : ℕ) (body : List ℕ) → moments ≡ before ++ m ∷ after → version < 2 ^ 64
+        → m.entry.call ≡ PutNew (commit_text version) body
     → CommitPut (history [] before) (history [] moments) version body m
 
 -- The statement put the commit of version 0 once, and no other commit. Version 0 has that very text; it is the statement's own put, unless a fault was the
@@ -158,7 +166,8 @@ pub record HasCreated (journal : Entries) (ps : List Put) (tag : Tag) (spec : Ta
 -- each reply that a table was made is of a statement that makes one, and has made it
 abbrev pub RepliesCreated : (Tag → Option Statement) → (Tag → Option Reply) → List Moment → Type 0
 RepliesCreated script replies moments =
-    (tag : Tag) (statement : Statement) → script tag ≡ Some statement → replies tag ≡ Some Created → (spec : TableSpec) × (statement ≡ Table spec) × HasCreated (entries_of moments) (history [] moments) tag spec
+    (tag : Tag) (statement : Statement) → script tag ≡ Some statement → replies tag ≡ Some Created
+        → (spec : TableSpec) × (statement ≡ Table spec) × HasCreated (entries_of moments) (history [] moments) tag spec
 
 -- the statement committed the version, above the one that it read, by so many puts
 pub record HasCommitted (journal : Entries) (ps : List Put) (tag : Tag) (version read attempts : ℕ) : Type 0 where
@@ -172,7 +181,8 @@ pub record HasCommitted (journal : Entries) (ps : List Put) (tag : Tag) (version
 -- each reply of a commit says which version the statement committed, which one it read, and how many puts it made
 abbrev pub RepliesCommitted : (Tag → Option Statement) → (Tag → Option Reply) → List Moment → Type 0
 RepliesCommitted script replies moments =
-    (tag : Tag) (statement : Statement) (version read attempts : ℕ) (checkpoint : CheckpointOutcome) → script tag ≡ Some statement → replies tag ≡ Some (Committed version read attempts checkpoint)
+    (tag : Tag) (statement : Statement) (version read attempts : ℕ) (checkpoint : CheckpointOutcome) → script tag ≡ Some statement
+        → replies tag ≡ Some (Committed version read attempts checkpoint)
     → HasCommitted (entries_of moments) (history [] moments) tag version read attempts
 
 -- the rows are those of the newest version in the statement's listing, in order, from all its live files
@@ -186,5 +196,6 @@ pub record HasRead (journal : Entries) (ps : List Put) (tag : Tag) (version : �
 -- each reply of rows has exactly the rows of its version
 abbrev pub RepliesRead : (Tag → Option Statement) → (Tag → Option Reply) → List Moment → Type 0
 RepliesRead script replies moments =
-    (tag : Tag) (statement : Statement) (version : ℕ) (rows : List Row) (files_read files_live : ℕ) → script tag ≡ Some statement → replies tag ≡ Some (Rows version rows files_read files_live)
+    (tag : Tag) (statement : Statement) (version : ℕ) (rows : List Row) (files_read files_live : ℕ) → script tag ≡ Some statement
+        → replies tag ≡ Some (Rows version rows files_read files_live)
     → HasRead (entries_of moments) (history [] moments) tag version rows files_read files_live
