@@ -52,10 +52,10 @@ after_open read j r (Failed l) (inr is) h =
     let memory : l.fault ≡ fault.NoMemory = failed_is l (record { judge = j; fault = fault.NoMemory }) is in
     same_reply r (Refused refusal.NoMemory) (h.1 ∙ ap (λ (f : AttemptFault Clash). Some (Refused (refusal_of f))) memory)
   where
-    failed_is : (a b : Lost CommitJudge Clash) → Failed {Lost CommitJudge Clash} {Won CommitJudge} a ≡ Failed b → a.fault ≡ b.fault
+    failed_is : (a b : Lost CommitJudge Clash) → ◌≡◌ {A = Ending (Lost CommitJudge Clash) (Won CommitJudge)} (Failed a) (Failed b) → a.fault ≡ b.fault
     failed_is a b same = ap (λ (x : Lost CommitJudge Clash). x.fault) (inside a b same)
       where
-        inside : (a b : Lost CommitJudge Clash) → Failed {Lost CommitJudge Clash} {Won CommitJudge} a ≡ Failed b → a ≡ b
+        inside : (a b : Lost CommitJudge Clash) → ◌≡◌ {A = Ending (Lost CommitJudge Clash) (Won CommitJudge)} (Failed a) (Failed b) → a ≡ b
         inside a b same = cc
 after_open read j r (Ended w rest) (inl is) h = cc
 after_open read j r (Ended w rest) (inr is) h = cc

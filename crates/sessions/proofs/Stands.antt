@@ -124,7 +124,7 @@ stays_or_over o t before after n k next later plan apart actor ready counted (in
     let still : IsStill o.plan.tag (under (Some t)) = (ap (λ (p : Plan). p.tag) plan, still_within t apart same.2) in
     inl (subst (λ (x : Option Txn). IsStill o.plan.tag (under x)) (sym s.0) still, s.1)
 stays_or_over o t before after n k next later plan apart actor ready counted (inr e) =
-    inr (e.0, e.1, subst (λ (a : ℕ). IsNext a (length after) (under n)) (sym actor) (between n k (length after) next later ready counted e.2))
+    inr (e.0, (e.1, subst (λ (a : ℕ). IsNext a (length after) (under n)) (sym actor) (between n k (length after) next later ready counted e.2)))
 
 -- after want of memory it is over
 not_same : (t : Txn) (n : Option Txn) (k : ℕ) (later : List Statement) → n ≡ Some t → call_of t.stage ≡ None → IsReadyNow n k later → ⊥
@@ -190,6 +190,7 @@ fresh_now t n before after k first next later_next later new (inl s) ready count
     between n k (length after) later_next later ready counted (subst (λ (x : Option Txn). IfSome x (λ u. place_of u.stage ≡ place.Between)) (sym s.0) at)
 fresh_now t n before after k first next later_next later new (inr e) ready counted = between n k (length after) later_next later ready counted e.2
 
-pub heard_not : (b : Bool) → (if b then 1 else 0) ≡ 0 → b ≡ false
+-- what makes no entry is no answer
+pub heard_not : (b : Bool) → ◌≡◌ {A = ℕ} (if b then 1 else 0) 0 → b ≡ false
 heard_not true h = cc
 heard_not false h = refl

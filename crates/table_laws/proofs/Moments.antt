@@ -28,14 +28,14 @@ use Rattle.table_laws.proofs.Serial.{keeps_answered}
 
 module _ (level : Level) (K : Tag → List ℕ → List ℕ → Type 0) (script : Tag → Option Statement) (replies : Tag → Option Reply) (tags : (tag : Tag) (statement : Statement) → script tag ≡ Some statement → IsTag tag) where
   -- what stands after some moments, with the rest still to come
-  record StandsAt (first : Objects) (puts : List Put) (before rest : List Moment) : Type 0 where
-    past : Entries
-    os : Objects
-    clock : ℕ
-    stands : Stands level K script replies tags past os (puts ++ history first before)
-    legal : IsLegal os clock rest
-    keeps : Keeps level K script replies tags past (entries_of rest)
-    whole : history first (before ++ rest) ≡ history first before ++ history os rest
+  pub record StandsAt (first : Objects) (puts : List Put) (before rest : List Moment) : Type 0 where
+    pub past : Entries
+    pub os : Objects
+    pub clock : ℕ
+    pub stands : Stands level K script replies tags past os (puts ++ history first before)
+    pub legal : IsLegal os clock rest
+    pub keeps : Keeps level K script replies tags past (entries_of rest)
+    pub whole : history first (before ++ rest) ≡ history first before ++ history os rest
 
   stands_at : (before rest : List Moment) (past : Entries) (os : Objects) (ps : List Put) (clock : ℕ) → Stands level K script replies tags past os ps → IsLegal os clock (before ++ rest)
       → Keeps level K script replies tags past (entries_of (before ++ rest)) → StandsAt os ps before rest

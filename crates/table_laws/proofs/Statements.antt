@@ -319,7 +319,7 @@ module _ (level : Level) (K : List ℕ → List ℕ → Type 0) (tag : Tag) (lim
   makes : (spec : TableSpec) (start : ℕ) (reply : Option Reply) (o : Option ℕ) (past es : Entries) → NoPut past → Makes tag limit spec.columns start reply o es → AllLawful level K tag (Table spec) reply past es
   makes spec start reply (Some v) past es none h = ended_lost level K tag (Table spec) refusal.TableThere reply past es (none_lost past none) h
   makes spec start reply None past es none h =
-      at_attempt level K tag (Table spec) (record { text = text; makes_table = true }) (record { start = start; retention = retention; first = 0 }) (λ l. Created) (λ lost past. (lost ≡ 0) × NoPut past)
+      at_attempt level K tag (Table spec) (record { text = text_of_columns (names_of spec.columns); makes_table = true }) (record { start = start; retention = retention; first = 0 }) (λ l. Created) (λ lost past. (lost ≡ 0) × NoPut past)
       (λ lost past p. none_lost past p.1)
       (λ lost past e is p. (p.0, none_put e past Now is now_no_put p.1))
       (λ lost past small p. IsTable spec refl (ap commit_text (first lost p.0)) refl p.1)
@@ -333,17 +333,14 @@ module _ (level : Level) (K : List ℕ → List ℕ → Type 0) (tag : Tag) (lim
       record { spec = spec; is_table = refl; puts = other_put f (e ∷ past) (Get (commit_text 0)) there refl ∙ put_once e past p.1 here; there = inr (inl (there, answer), inr (inl (here, fault))) })
       reply limit 0 [] past es (omega arith) (refl, none) h
     where
-      abbrev text : List ℕ
-      text = text_of_columns (names_of spec.columns)
-
       first : (lost : ℕ) → lost ≡ 0 → 0 + lost ≡ 0
       first lost is = omega arith
 
-      put_first : (e : JournalEntry) (lost : ℕ) → lost ≡ 0 → e.call ≡ PutNew (commit_text (0 + lost)) text → e.call ≡ PutNew (commit_text 0) text
-      put_first e lost is put = put ∙ ap (λ (n : ℕ). PutNew (commit_text n) text) (first lost is)
+      put_first : (e : JournalEntry) (lost : ℕ) → lost ≡ 0 → e.call ≡ PutNew (commit_text (0 + lost)) (text_of_columns (names_of spec.columns)) → e.call ≡ PutNew (commit_text 0) (text_of_columns (names_of spec.columns))
+      put_first e lost is put = put ∙ ap (λ (n : ℕ). PutNew (commit_text n) (text_of_columns (names_of spec.columns))) (first lost is)
 
-      put_once : (e : JournalEntry) (past : Entries) → NoPut past → e.call ≡ PutNew (commit_text 0) text → versions_put (e ∷ past) ≡ 0 ∷ []
-      put_once e past none put = one_put e past 0 text (omega arith) put ∙ ap (λ (vs : List ℕ). 0 ∷ vs) (no_versions past none)
+      put_once : (e : JournalEntry) (past : Entries) → NoPut past → e.call ≡ PutNew (commit_text 0) (text_of_columns (names_of spec.columns)) → versions_put (e ∷ past) ≡ 0 ∷ []
+      put_once e past none put = one_put e past 0 (text_of_columns (names_of spec.columns)) (omega arith) put ∙ ap (λ (vs : List ℕ). 0 ∷ vs) (no_versions past none)
 
   after_listing : (kept : Option Kept) → KeptPart K kept → (statement : Statement) → ((rows : List Row) → statement ≡ Insert rows → rows_of_text (text_of_rows rows) ≡ Some rows)
       → (start : ℕ) (reply : Option Reply) (l : List Listed) (past es : Entries) → NoPut past → first_past told_by past ≡ Some start → ((v : ℕ) → newest l ≡ Some v → first_past listed_by past ≡ Some v)
