@@ -13,7 +13,7 @@ use Rattle.line_texts.specs.Texts.{text_of_columns}
 use Rattle.call_phases.specs.Phases.{Entries}
 use Rattle.txn_machine.specs.Answered.{Kept, names_of}
 use Rattle.actor_core.specs.Entries.{own}
-use Rattle.table_laws.specs.Conflicts.{Level, Serializable}
+use Rattle.table_laws.specs.Levels.{Level, Serializable}
 use Rattle.table_laws.specs.History.{Put, history, put_under, body_of}
 use Rattle.table_laws.specs.Runs.{SessionKnows, IsRun, GotIn, StoredIn}
 use Rattle.table_laws.specs.Refused.{FaultedIn}

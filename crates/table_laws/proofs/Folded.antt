@@ -12,7 +12,7 @@ use Rattle.op_types.specs.declared.statement.Statement.{Statement}
 use Rattle.table_rules.specs.Names.{commit_text}
 use Rattle.table_laws.specs.Rows.{Row}
 use Rattle.table_laws.specs.Operations.{Operation, Insert, Change, Compact, operation_of, scope_of, result_of, operated}
-use Rattle.table_laws.specs.Conflicts.{Serializable}
+use Rattle.table_laws.specs.Levels.{Serializable}
 use Rattle.table_laws.specs.Serial.{missed}
 use Rattle.table_laws.specs.History.{Put, history, put_under, rows_at}
 use Rattle.table_laws.specs.Laws.{statement_of, operation_by, VersionsAreSerial, FirstIsEmpty}

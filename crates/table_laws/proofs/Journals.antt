@@ -28,8 +28,8 @@ use Rattle.actor_core.specs.Entries.{own}
 use Rattle.actor_core.proofs.Owners.{same_tag-refl, same_tag_is}
 use Rattle.table_laws.specs.Rows.{Row}
 use Rattle.table_laws.specs.Operations.{Operation, operation_of}
-use Rattle.table_laws.specs.Effects as effects
-use Rattle.table_laws.specs.Conflicts.{Level}
+use Rattle.table_laws.proofs.CommitEffects as effects
+use Rattle.table_laws.specs.Levels.{Level}
 use Rattle.table_laws.specs.History.{Put, put_under, body_of, put_if_free, puts_of, if_done, puts_at, history}
 use Rattle.table_laws.specs.Runs.{or_first, listed_by, told_by, version_put, with_version, versions_put, first_given, GotIn, StoredIn}
 use Rattle.table_laws.proofs.Lawful.{Known, PutIn, NoPut, FoundMissing, first_past, Knows, versions_down, IsCommitOf, MayPut, IsFile, IsTable, IsCommit, LawfulBy, AllLawful}

@@ -22,8 +22,9 @@ use Rattle.txn_machine.specs.Texts.{read_commit, read_file}
 use Rattle.txn_machine.specs.Answered.{names_of, rows_of_files}
 use Rattle.table_laws.specs.Rows.{Row}
 use Rattle.table_laws.specs.Operations.{Operation, operation_of, scope_of, got_files, removed_files}
-use Rattle.table_laws.specs.Effects.{may_match, new_rows, effect_of}
-use Rattle.table_laws.specs.Conflicts.{Level, FileClash, first_clash}
+use Rattle.table_laws.proofs.CommitEffects.{may_match, new_rows, effect_of}
+use Rattle.table_laws.specs.Levels.{Level}
+use Rattle.table_laws.proofs.Clashes.{FileClash, first_clash}
 use Rattle.table_laws.specs.Runs.{or_first, listed_by, told_by, versions_put, GotIn, StoredIn, LoadedTo}
 use Rattle.table_laws.specs.Refused.{IsUnknown}
 

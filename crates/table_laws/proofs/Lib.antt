@@ -1,3 +1,5 @@
+pub mod Clashes
+pub mod CommitEffects
 pub mod Files
 pub mod Live
 pub mod Winners

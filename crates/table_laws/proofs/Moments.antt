@@ -16,7 +16,7 @@ use Rattle.table_rules.specs.Told.{IsTag}
 use Rattle.call_phases.specs.Phases.{Entries}
 use Rattle.txn_machine.specs.Answered.{Kept}
 use Rattle.actor_core.specs.Entries.{own}
-use Rattle.table_laws.specs.Conflicts.{Level, Serializable}
+use Rattle.table_laws.specs.Levels.{Level, Serializable}
 use Rattle.table_laws.specs.History.{Put, put_under, puts_of, puts_at, put_if_free, if_done, history}
 use Rattle.table_laws.specs.Runs.{SessionKnows, IsRun}
 use Rattle.table_laws.specs.Laws.{CommitPut, Wins, Loses, Fails, CommitPutsAreDecided}

@@ -34,7 +34,7 @@ use Rattle.txn_machine.specs.Judging.{Bodies, Judges, verdict_of}
 use Rattle.txn_machine.specs.Phases.{IsOpen, IsCutShort, Ends, Cut, Replies, AtLoad}
 use Rattle.txn_machine.specs.Texts.{read_commit}
 use Rattle.txn_machine.specs.Answered.{refusal_of}
-use Rattle.table_laws.specs.Conflicts.{Level}
+use Rattle.table_laws.specs.Levels.{Level}
 use Rattle.table_laws.specs.Runs.{or_first, listed_by, told_by, LoadedTo}
 use Rattle.table_laws.specs.Refused.{IsUnknown}
 use Rattle.table_laws.proofs.Lawful.{Known, NoPut, IsLost, AllLost, AllInDoubt, ClaimsNothing, first_past, ClaimOf, Claim, MayPut, LawfulBy, AllLawful}

@@ -14,7 +14,7 @@ use Rattle.table_rules.specs.Told.{IsTag}
 use Rattle.call_phases.specs.Phases.{Entries}
 use Rattle.edge_api.specs.Journal.{same_tag}
 use Rattle.actor_core.specs.Entries.{own}
-use Rattle.table_laws.specs.Conflicts.{Level, Serializable}
+use Rattle.table_laws.specs.Levels.{Level, Serializable}
 use Rattle.table_laws.specs.History.{Put, history, put_under, body_of}
 use Rattle.txn_machine.specs.Answered.{Kept}
 use Rattle.table_laws.specs.Runs.{SessionKnows, IsRun}

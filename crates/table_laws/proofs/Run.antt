@@ -1,5 +1,5 @@
 -- Every legal completion of a run's journal is lawful.
-use Rattle.table_laws.specs.Conflicts.{Serializable}
+use Rattle.table_laws.specs.Levels.{Serializable}
 use Rattle.table_laws.specs.Lawful.{EachRunIsLawful}
 use Rattle.table_laws.proofs.Serial.{serial_at, once_at, first_at, commits_at, files_at, lands_at, committed_at, read_at, first_is_empty}
 use Rattle.table_laws.proofs.Folded.{rows_are_folded}

@@ -29,8 +29,8 @@ use Rattle.actor_core.specs.Entries.{own}
 use Rattle.table_laws.specs.Rows.{Row}
 use Rattle.table_laws.specs.Operations.{Operation, operation_of, inserted, got_files, removed_files}
 use Rattle.table_laws.specs.Files.{live_by, rows_in, rows_under, lines_of}
-use Rattle.table_laws.specs.Effects.{may_match, new_rows, new_file, effect_of}
-use Rattle.table_laws.specs.Conflicts.{Level, Serializable}
+use Rattle.table_laws.proofs.CommitEffects.{may_match, new_rows, new_file, effect_of}
+use Rattle.table_laws.specs.Levels.{Level, Serializable}
 use Rattle.table_laws.specs.History.{Put, put_under, body_of, or_nothing, commit_at, rows_of, history, IsCommitted}
 use Rattle.table_laws.specs.Runs.{listed_by, GotIn, StoredIn, SessionKnows, LoadedTo, IsAnsweredPart, IsRun}
 use Rattle.table_laws.specs.Laws.{statement_of, operation_by, inserted_by, appended, Step, versions_from, IsWonBefore, Lands, HasCommitted, HasRead, MakesTable, ReadsAt, FileReads, AllFilesRead, VersionsAreSerial, FirstIsEmpty, FirstMakesTable, CommitsOnce, CommitsRead, FilesRead, CommitsLand, RepliesCommitted, RepliesRead}
@@ -401,10 +401,13 @@ module _ (level : Level) (K : Tag → List ℕ → List ℕ → Type 0) (script 
         let scanned = scanned_more (Known (K t) (own t past)) (InPut ps) more (paths_of (c.s).files) c.got c.scanned in
         let base : (c.s).files ≡ live version = ap (λ (x : Snapshot). x.files) (loaded_is ps version c.s loaded) in
         let rows : rows_of_files c.got ≡ rows_in (rows_of ps) (live version) = scanned_rows ps (paths_of (c.s).files) c.got scanned ∙ ap (λ (fs : List Add). rows_in (rows_of ps) fs) base in
+        let q = put_of_body (put_under ps (commit_text version)) loaded.1 loaded.4 in
+        let same : (q.0).body ≡ loaded.1 = some_same (q.0).body loaded.1 (sym (ap body_of q.1) ∙ loaded.4) in
         let long : length c.got ≡ length (live version) = scanned_long (InPut ps) (paths_of (c.s).files) c.got scanned ∙ length-paths_of (c.s).files ∙ ap (λ (fs : List Add). length fs) base in
         record {
           is_read = sym (given_is listed_by t past journal is_past) ∙ c.listed;
           committed = some_of_body (put_under ps (commit_text version)) loaded.1 loaded.4;
+          reads = (q.0, q.1, loaded.2, ap (read_commit version) same ∙ loaded.5);
           rows = subst (λ (l : List Row). Sorts l given) rows c.sorts;
           files_read = c.files_read ∙ long;
           files_live = c.files_live ∙ ap (λ (fs : List Add). length fs) base;

@@ -35,8 +35,8 @@ use Rattle.txn_machine.specs.Answered.{Kept, retention, version_limit, IsSelecte
 use Rattle.table_laws.specs.Rows.{Row}
 use Rattle.table_laws.specs.Operations.{Operation, operation_of}
 use Rattle.table_laws.specs.Operations as operations
-use Rattle.table_laws.specs.Effects.{effect_of}
-use Rattle.table_laws.specs.Conflicts.{Level}
+use Rattle.table_laws.proofs.CommitEffects.{effect_of}
+use Rattle.table_laws.specs.Levels.{Level}
 use Rattle.table_laws.specs.Runs.{or_first, listed_by, told_by, version_put, with_version, versions_put, GotIn, StoredIn, LoadedTo, KeptPart}
 use Rattle.table_laws.proofs.Lawful.{Known, NoPut, AllLost, first_past, judge_of, AllScanned, Cleared, Knows, versions_down, AllWon, ClaimsRows, Claim, IsFile, IsTable, IsCommit, AllLawful}
 use Rattle.table_laws.proofs.Known.{loaded_more, knows_more, scanned_more, scanned_push}

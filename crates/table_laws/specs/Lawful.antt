@@ -5,7 +5,7 @@ use Rattle.edge_api.specs.Journal.{Moment, IsLegal, entries_of}
 use Rattle.op_types.specs.declared.statement.Statement.{Statement}
 use Rattle.op_types.specs.declared.reply.Reply.{Reply}
 use Rattle.txn_machine.specs.Answered.{Kept}
-use Rattle.table_laws.specs.Conflicts.{Level}
+use Rattle.table_laws.specs.Levels.{Level}
 use Rattle.table_laws.specs.Runs.{IsRun}
 use Rattle.table_laws.specs.Laws.{VersionsAreSerial, CommitsOnce, FirstIsEmpty, FirstMakesTable, CommitsRead, FilesRead, CommitsLand, CommitPutsAreDecided, RepliesCreated, RepliesCommitted, RepliesRead}
 use Rattle.table_laws.specs.Folded.{RowsAreFolded}

@@ -21,7 +21,7 @@ use Rattle.txn_machine.specs.Answered.{names_of}
 use Rattle.actor_core.specs.Entries.{own}
 use Rattle.table_laws.specs.Rows.{Row}
 use Rattle.table_laws.specs.Operations.{Operation, operation_of, inserted}
-use Rattle.table_laws.specs.Conflicts.{Level}
+use Rattle.table_laws.specs.Levels.{Level}
 use Rattle.table_laws.specs.Serial.{SerialStep}
 use Rattle.table_laws.specs.Files.{live_by}
 use Rattle.table_laws.specs.History.{Put, history, put_under, commit_at, rows_at, IsCommitted}
@@ -189,6 +189,7 @@ RepliesCommitted script replies moments =
 pub record HasRead (journal : Entries) (ps : List Put) (tag : Tag) (version : ℕ) (given : List Row) (read live : ℕ) : Type 0 where
   pub is_read : version_read (own tag journal) ≡ Some version
   pub committed : IsCommitted ps version
+  pub reads : ReadsAt ps version
   pub rows : Sorts (rows_at ps version) given
   pub files_read : read ≡ length (live_by (commit_at ps) version)
   pub files_live : live ≡ length (live_by (commit_at ps) version)

@@ -1,8 +1,7 @@
 pub mod Rows
 pub mod Operations
 pub mod Files
-pub mod Effects
-pub mod Conflicts
+pub mod Levels
 pub mod Serial
 pub mod History
 pub mod Runs

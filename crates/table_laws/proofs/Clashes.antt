@@ -3,11 +3,7 @@ use Rattle.std.specs.Prelude.{ℕ, Bool, true, false, not, ◌&&◌, if◌then�
 use Rattle.snapshot_replay.specs.Table.{Action, Removes, Adds, Commit}
 use Rattle.table_laws.specs.Files.{has_path}
 use Rattle.table_laws.specs.Operations.{Operation, is_insert, is_change}
-
--- how strict a table is with rows that came after the version that was read (Delta Lake, isolation levels)
-pub data Level : Type 0 where
-  Serializable : Level
-  WriteSerializable : Level
+use Rattle.table_laws.specs.Levels.{Level, Serializable, WriteSerializable}
 
 -- a winner's file may hold rows of the scope; it takes out a file that was read; it takes out a file that is taken out
 pub data FileClash : Type 0 where
