@@ -101,4 +101,4 @@ pub record RunsInOrder (items : List Item) (before after : Option (List JournalE
 unfoldable pub IsSerial : Program → Option (List JournalEntry) → Option (List JournalEntry) → List (List Reply) → Type 0
 IsSerial p before after replies =
     before ≡ Some [] → (journal : List JournalEntry) → after ≡ Some journal → (moments : List Moment) → IsLegal [] 0 moments → entries_of moments ≡ journal
-        → IsLawful (statement_of (scripts_of p)) (reply_of replies) moments
+    → IsLawful (statement_of (scripts_of p)) (reply_of replies) moments

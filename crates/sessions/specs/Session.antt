@@ -47,7 +47,7 @@ AllAnswered killed (p ∷ ps) es [] = ⊥
 AllAnswered killed (p ∷ ps) es (r ∷ rs) =
     ((killed ≡ true) × IsKilled p.tag r rs es × Answered p.tag p.limit None p.statement es None)
     ⊎ ((own : Entries) × (rest : Entries) × (es ≡ own ++ rest) × AllTagged p.tag own
-      × Answered p.tag p.limit None p.statement own (Some r) × AllAnswered killed ps rest rs)
+    × Answered p.tag p.limit None p.statement own (Some r) × AllAnswered killed ps rest rs)
 
 -- whether a session with so many entries is killed: where it has the number after which it is to be, and no session has more
 abbrev pub Stops : Option ℕ → ℕ → Bool → Type 0

@@ -114,7 +114,7 @@ module _ (level : Level) (K : Tag → List ℕ → List ℕ → Type 0) (script 
             let may : MayPut level (K m.entry.tag) m.entry.tag next.0 (own m.entry.tag r.past) (commit_text v) body = subst (LawfulBy level (K m.entry.tag) m.entry.tag next.0 (own m.entry.tag r.past)) is next.2 in
             let winner = put_of_body (put_under (history [] before) (commit_text v)) o.body ((r.stands).agree (commit_text v) o.body (ap body_at at)) in
             Loses winner.0 winner.1 (λ same. not_own level K script replies tags r.past r.os (history [] before) r.stands m.entry.tag next.0 next.1 (commit_text v) body may v refl winner.0 winner.1 same)
-                (taken_or_fault m.entry.answer answers)
+            (taken_or_fault m.entry.answer answers)
 
 pub puts_at_moments : (limit : ℕ) (script : Tag → Option Statement) (kepts : Tag → Option Kept) (replies : Tag → Option Reply) (moments : List Moment) → IsLegal [] 0 moments → IsRun limit script kepts replies (entries_of moments) → CommitPutsAreDecided moments
 puts_at_moments limit script kepts replies moments legal run before rest m v body parts small is =

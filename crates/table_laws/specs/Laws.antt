@@ -107,7 +107,7 @@ FilesRead moments = (v : ℕ) → v < 2 ^ 64 → IsCommitted (history [] moments
 abbrev pub CommitsOnce : List Moment → Type 0
 CommitsOnce moments =
     (v w : ℕ) (p q : Put) → v < 2 ^ 64 → w < 2 ^ 64 → put_under (history [] moments) (commit_text v) ≡ Some p
-        → put_under (history [] moments) (commit_text w) ≡ Some q → p.tag ≡ q.tag → v ≡ w
+    → put_under (history [] moments) (commit_text w) ≡ Some q → p.tag ≡ q.tag → v ≡ w
 
 -- so many versions, from one on
 abbrev pub versions_from : ℕ → ℕ → List ℕ
@@ -151,7 +151,7 @@ pub data CommitPut (before all : List Put) (version : ℕ) (body : List ℕ) (m 
 abbrev pub CommitPutsAreDecided : List Moment → Type 0
 CommitPutsAreDecided moments =
     (before after : List Moment) (m : Moment) (version : ℕ) (body : List ℕ) → moments ≡ before ++ m ∷ after → version < 2 ^ 64
-        → m.entry.call ≡ PutNew (commit_text version) body
+    → m.entry.call ≡ PutNew (commit_text version) body
     → CommitPut (history [] before) (history [] moments) version body m
 
 -- The statement put the commit of version 0 once, and no other commit. Version 0 has that very text; it is the statement's own put, unless a fault was the
@@ -167,7 +167,7 @@ pub record HasCreated (journal : Entries) (ps : List Put) (tag : Tag) (spec : Ta
 abbrev pub RepliesCreated : (Tag → Option Statement) → (Tag → Option Reply) → List Moment → Type 0
 RepliesCreated script replies moments =
     (tag : Tag) (statement : Statement) → script tag ≡ Some statement → replies tag ≡ Some Created
-        → (spec : TableSpec) × (statement ≡ Table spec) × HasCreated (entries_of moments) (history [] moments) tag spec
+    → (spec : TableSpec) × (statement ≡ Table spec) × HasCreated (entries_of moments) (history [] moments) tag spec
 
 -- the statement committed the version, above the one that it read, by so many puts
 pub record HasCommitted (journal : Entries) (ps : List Put) (tag : Tag) (version read attempts : ℕ) : Type 0 where
@@ -182,7 +182,7 @@ pub record HasCommitted (journal : Entries) (ps : List Put) (tag : Tag) (version
 abbrev pub RepliesCommitted : (Tag → Option Statement) → (Tag → Option Reply) → List Moment → Type 0
 RepliesCommitted script replies moments =
     (tag : Tag) (statement : Statement) (version read attempts : ℕ) (checkpoint : CheckpointOutcome) → script tag ≡ Some statement
-        → replies tag ≡ Some (Committed version read attempts checkpoint)
+    → replies tag ≡ Some (Committed version read attempts checkpoint)
     → HasCommitted (entries_of moments) (history [] moments) tag version read attempts
 
 -- the rows are those of the newest version in the statement's listing, in order, from all its live files
@@ -198,5 +198,5 @@ pub record HasRead (journal : Entries) (ps : List Put) (tag : Tag) (version : �
 abbrev pub RepliesRead : (Tag → Option Statement) → (Tag → Option Reply) → List Moment → Type 0
 RepliesRead script replies moments =
     (tag : Tag) (statement : Statement) (version : ℕ) (rows : List Row) (files_read files_live : ℕ) → script tag ≡ Some statement
-        → replies tag ≡ Some (Rows version rows files_read files_live)
+    → replies tag ≡ Some (Rows version rows files_read files_live)
     → HasRead (entries_of moments) (history [] moments) tag version rows files_read files_live

@@ -41,5 +41,5 @@ FaultedIn (e ∷ es) name body = ((e.call ≡ PutNew name body) × (e.answer ≡
 abbrev pub RefusedCommitNothing : (Tag → Option Statement) → (Tag → Option Reply) → List Moment → Type 0
 RefusedCommitNothing script replies moments =
     (tag : Tag) (statement : Statement) (r : Refusal) (version : ℕ) (p : Put) → script tag ≡ Some statement → replies tag ≡ Some (Refused r)
-        → put_under (history [] moments) (commit_text version) ≡ Some p → p.tag ≡ tag
+    → put_under (history [] moments) (commit_text version) ≡ Some p → p.tag ≡ tag
     → IsUnknown r × FaultedIn (own tag (entries_of moments)) (commit_text version) p.body

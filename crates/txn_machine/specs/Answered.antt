@@ -101,7 +101,7 @@ names_of (c ∷ cs) = c.name ∷ names_of cs
 abbrev pub AtCommit : Option Reply → ℕ → ℕ → ℕ → CommitJudge → (Landed → Reply) → Entries → Type 0
 AtCommit reply tries start first j landed es =
     AtAttempt Bodies Judges (record { start = start; retention = retention; first = first }) (λ j. IsOpen reply)
-        (λ j f rest. Ends reply (refusal_of f) rest) (λ j l rest. Replies reply (landed l) rest)
+    (λ j f rest. Ends reply (refusal_of f) rest) (λ j l rest. Replies reply (landed l) rest)
     tries 0 [] j es
 
 -- the reply of a commit that landed
@@ -113,7 +113,7 @@ abbrev pub AtData : ℕ → List ℕ → List ℕ → ℕ → ℕ → Option Rep
 AtData limit path body start read reply es =
     AtPutNew (IsOpen reply) path body (Ends reply (refusal.Fault (called kind.PutNew path)))
     (λ rest. AtCommit reply limit start (read + 1) (record { text = text_of_add path; makes_table = false }) (committed read) rest)
-        (Ends reply (refusal.NameTaken path)) es
+    (Ends reply (refusal.NameTaken path)) es
 
 module _ (tag : Tag) (limit : ℕ) where
   -- an append of rows: its data file, then its commit

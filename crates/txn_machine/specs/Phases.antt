@@ -88,7 +88,7 @@ AtLoad reply zero at s next es = next s es
 AtLoad reply (suc n) at s next es =
     AtGet (IsOpen reply) (commit_text at) (Ends reply (refusal.Fault (called kind.Get (commit_text at)))) (Ends reply (refusal.LogGone (commit_text at)))
     (λ text rest. Cut reply rest ⊎ MatchOption (read_commit at text) (Ends reply (refusal.BadObject (commit_text at) (commit_fault at text)) rest)
-        (λ t. AtLoad reply n (at + 1) (applied s t) next rest)) es
+    (λ t. AtLoad reply n (at + 1) (applied s t) next rest)) es
 
 -- one get for each of these data files, in order. The files got are handed on with their rows
 abbrev pub AtFiles : Option Reply → List (List ℕ) → List ScannedFile → (List ScannedFile → Entries → Type 0) → Entries → Type 0
@@ -96,4 +96,4 @@ AtFiles reply [] got next es = next got es
 AtFiles reply (path ∷ paths) got next es =
     AtGet (IsOpen reply) path (Ends reply (refusal.Fault (called kind.Get path))) (Ends reply (refusal.FileGone path))
     (λ text rest. Cut reply rest ⊎ MatchOption (read_file text) (Ends reply (refusal.BadObject path (file_fault text)) rest)
-        (λ rows. AtFiles reply paths (got ++ record { path = path; rows = rows } ∷ []) next rest)) es
+    (λ rows. AtFiles reply paths (got ++ record { path = path; rows = rows } ∷ []) next rest)) es

@@ -13,9 +13,9 @@ ghost use Rattle.committer.specs.Machine as attempts;
 ghost use Rattle.committer.specs.Machine.{IsReady};
 ghost use Rattle.txn_machine.specs.Machine.{reply_after, landed_after, AtAttempting, FedTo, EndsOpen, Rest, Follows, call_of, left_of};
 
-use crate::{CommitJudge, TableStatement};
 use crate::listing::newest_version;
 use crate::stage::{Ahead, Attempting, DataPut, Files, Listing, Loading, Plan, Stage, Start};
+use crate::{CommitJudge, TableStatement};
 use committer::{AttemptFault, Attempts, Landed};
 use edge_api::{Answer, Body, CallKind, Fed, Listed};
 use line_texts::{write_add, write_columns};

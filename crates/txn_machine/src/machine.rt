@@ -315,12 +315,7 @@ impl Plan {
 }
 
 /// The path and the bytes of a data file.
-fn data_file(
-    alloc: Global,
-    plan: &Plan,
-    start: u64,
-    rows: &Rows,
-) -> Result<(Name, Body), NoMemory>
+fn data_file(alloc: Global, plan: &Plan, start: u64, rows: &Rows) -> Result<(Name, Body), NoMemory>
     ensures { IfOk result (λ f. (f.0 ≡ data_text plan.now.tag start 0) × (f.1 ≡ text_of_rows rows.now)) }
 {
     let path = data_file_name(alloc, plan.tag, start, 0)?;

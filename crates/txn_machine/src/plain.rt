@@ -86,11 +86,7 @@ fn rows_under(alloc: Global, files: &[DataFile], path: &Name) -> Result<Rows, No
 }
 
 /// The rows of the files of these paths, one file after another.
-fn rows_of_paths(
-    alloc: Global,
-    files: &[DataFile],
-    paths: VecDeque<Name>,
-) -> Result<Rows, NoMemory>
+fn rows_of_paths(alloc: Global, files: &[DataFile], paths: VecDeque<Name>) -> Result<Rows, NoMemory>
     ensures { IfOk result (λ rows. rows ≡ flat_map (rows_in files.now) paths.items) }
 {
     let mut rows = Rows::new(alloc);
