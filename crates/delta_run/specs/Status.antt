@@ -6,6 +6,7 @@ use Rattle.script_text.specs.declared.script.ScriptFaultKind.TheVariants as kind
 use Rattle.delta_run.specs.declared.status.Status.{Status}
 use Rattle.delta_run.specs.declared.status.Status.TheVariants.{Done, NoWords, NoScript, ReadFault, WriteFault, NoMemory, TooLong}
 
+-- the printed kind of a fault
 abbrev pub kind_text : ScriptFaultKind → List ℕ
 kind_text kinds.Utf8 = codes "utf8"
 kind_text kinds.Header = codes "header"
@@ -14,6 +15,7 @@ kind_text kinds.Session = codes "session"
 kind_text kinds.Limit = codes "limit"
 kind_text kinds.NoMemory = codes "memory"
 
+-- the exit status
 abbrev pub code_of : Status → ℕ
 code_of Done = 0
 code_of NoWords = 2
@@ -23,6 +25,7 @@ code_of WriteFault = 5
 code_of NoMemory = 6
 code_of TooLong = 7
 
+-- what is printed of a status
 abbrev pub text_of : Status → List ℕ
 text_of Done = []
 text_of NoWords = codes "words: step, threads, dir --path P, gen --size N\n"

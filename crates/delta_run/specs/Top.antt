@@ -16,9 +16,11 @@ use Rattle.delta_run.specs.Play.{Plays, MayRun, program_of}
 abbrev pub limit : ℕ
 limit = 16777216
 
+-- the bytes of a source or a sink, where they are told
 abbrev pub ToldBytes : Type 0
 ToldBytes = Option (List ℕ)
 
+-- the journal of a store, where it is told
 abbrev pub ToldJournal : Type 0
 ToldJournal = Option (List JournalEntry)
 

@@ -4,6 +4,7 @@ use Rattle.std.specs.Str.{bytes_eq}
 use Rattle.delta_run.specs.declared.words.Words.{Words}
 use Rattle.delta_run.specs.declared.words.Words.TheVariants.{Step}
 
+-- what the words of a command line ask for
 abbrev pub words_of : List (List ℕ) → Option Words
 words_of [] = None
 words_of (word ∷ []) = if bytes_eq word (codes "step") then Some Step else None

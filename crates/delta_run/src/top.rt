@@ -15,13 +15,11 @@ use crate::status::{Status, fault_text};
 use crate::words::{Words, read_words};
 use edge_api::{Gate, ReadError, Sink, Source, World, read_all, write_all};
 use row_base::Text;
+use row_base::limits::MAX_SCRIPT_BYTES;
 use script_text::{Script, ScriptFaultKind, parse_script};
 use std::alloc::Global;
 use std::sync::Wait;
 use std::thread::Threads;
-
-/// The greatest length of a script in bytes.
-const LIMIT: usize = 16_777_216;
 
 /// How a run ended, and the store that it used.
 #[derive(Drop)]
@@ -38,7 +36,7 @@ fn read_bytes<S: Source>(alloc: Global, source: &mut S) -> Result<Vec<u8>, Statu
     ensures bound { IfOk result (λ v. length v.items ≤ limit) }
     ensures err { IfErr result (λ e. FailsReading e (S.left source.old) (S.left source.new) (S.faults source.old) (S.faults source.new)) }
 {
-    match read_all(alloc, source, LIMIT) {
+    match read_all(alloc, source, MAX_SCRIPT_BYTES) {
         Ok(bytes) => Ok(bytes),
         Err(ReadError::Failed) => Err(Status::ReadFault),
         Err(ReadError::TooLong) => Err(Status::TooLong),

@@ -6,6 +6,10 @@ mod actors;
 #[cfg(test)]
 mod attempts;
 #[cfg(test)]
+mod session_replies;
+#[cfg(test)]
+mod statements;
+#[cfg(test)]
 mod states;
 #[cfg(test)]
 mod texts;

@@ -7,7 +7,7 @@ use Rattle.std.specs.List.{list_all}
 use Rattle.std.specs.Int.{w64}
 use Rattle.std.specs.Prelude.{Option, Some, None, All, slice_get, option_and_then, if◌then◌else◌, nat_lt, ℤ, pos, negsuc, FitsSigned}
 use Rattle.edge_api.specs.declared.call.Tag.{Tag}
-use Rattle.edge_api.specs.Journal.{entries_of}
+use Rattle.edge_api.specs.Journal.{same_tag, entries_of}
 use Rattle.edge_api.specs.World.{Grows}
 use Rattle.row_base.specs.declared.row.Datum.{Datum}
 use Rattle.row_base.specs.declared.row.Datum.TheVariants as datum
@@ -21,15 +21,13 @@ use Rattle.line_texts.specs.Texts.{text_of_rows, rows_of_text, is_long, is_long_
 use Rattle.line_texts.specs.Laws.{RowsReadBack}
 use Rattle.call_phases.specs.Phases.{Entries}
 use Rattle.txn_machine.specs.Answered.{Answered}
-use Rattle.actor_core.specs.Entries.{of_actor, same_tag, own}
+use Rattle.actor_core.specs.Entries.{of_actor, own}
 use Rattle.actor_core.proofs.Lists.{item_of, some_same, not_equal}
 use Rattle.actor_core.proofs.Owners.{own-append, own_among, same_tag-refl}
 use Rattle.actor_core.proofs.Pieces.{Told}
 use Rattle.sessions.specs.Session.{AllTagged, AllAnswered, AnsweredTo, plans_from}
 use Rattle.table_laws.specs.Runs as laws
-use Rattle.table_laws.specs.Folded.{EachVersionIsFolded}
-use Rattle.table_laws.specs.Laws.{EachVersionIsSerial, EachStatementCommitsOnce, FirstVersionIsEmpty, EachCommitLands, EachReplyCommitted, EachReplyRead}
-use Rattle.table_laws.specs.Refused.{EachRefusalCommitsNothing}
+use Rattle.table_laws.specs.Lawful.{EachRunIsLawful}
 use Rattle.session_runs.specs.Run.{Program, IsPlain, IsLong, IsLongRow, AllReplied, IsSerial, Runs, scripts_of, counted, statement_of, reply_of}
 use Rattle.session_runs.proofs.Replies.{all_at}
 
@@ -176,10 +174,10 @@ grown_is (Some old) after part journal is now h =
     let none = some_same old [] is in
     sym (ap (λ (l : Entries). l ++ part) none) ∙ some_same (old ++ part) journal (sym h ∙ now)
 
-pub is_serial : EachVersionIsSerial → EachStatementCommitsOnce → FirstVersionIsEmpty → EachCommitLands → EachReplyCommitted → EachReplyRead → EachVersionIsFolded → EachRefusalCommitsNothing → RowsReadBack → (p : Program) (before after : Told) (replies : List (List Reply)) → p.limit ≤ 1000000 → length p.sessions ≤ 64
+pub is_serial : EachRunIsLawful → RowsReadBack → (p : Program) (before after : Told) (replies : List (List Reply)) → p.limit ≤ 1000000 → length p.sessions ≤ 64
     → All (λ s. length s ≤ 4096) p.sessions → All (λ s. All IsPlain s) p.sessions → Runs p before after replies → IsSerial p before after replies
 unfolding Runs IsSerial
-is_serial serial once empty lands committed read folded refused back p before after replies small few short plain runs is_before journal is_after moments legal are =
+is_serial lawful back p before after replies small few short plain runs is_before journal is_after moments legal are =
     let scripts = scripts_of p in
     let part_is = grown_is before after runs.0 journal is_before is_after runs.1 in
     let answered = subst (λ (l : Entries). laws.IsAnswered p.limit (statement_of scripts) (λ t. None) (reply_of replies) l) (part_is ∙ sym are) (each_answered p.limit scripts runs.0 replies runs.2) in
@@ -194,13 +192,4 @@ is_serial serial once empty lands committed read folded refused back p before af
     let f = found scripts t (Insert rows) h in
     back rows (long_rows rows (plain_of p.table p.sessions t.actor f.place f.sts (Insert rows) plain f.at f.there)) in
     let run : laws.IsRun p.limit (statement_of scripts) (λ t. None) (reply_of replies) (entries_of moments) = record { answered = answered; kept = λ t. tt; limited = omega (arith, small); tags = tags; faithful = faithful } in
-    record {
-      serial = λ level. serial level p.limit (statement_of scripts) (λ t. None) (reply_of replies) moments legal run;
-      once = once p.limit (statement_of scripts) (λ t. None) (reply_of replies) moments legal run;
-      empty = empty moments;
-      lands = lands p.limit (statement_of scripts) (λ t. None) (reply_of replies) moments legal run;
-      committed = committed p.limit (statement_of scripts) (λ t. None) (reply_of replies) moments legal run;
-      read = read p.limit (statement_of scripts) (λ t. None) (reply_of replies) moments legal run;
-      folded = folded p.limit (statement_of scripts) (λ t. None) (reply_of replies) moments legal run;
-      refused = refused p.limit (statement_of scripts) (λ t. None) (reply_of replies) moments legal run;
-    }
+    lawful p.limit (statement_of scripts) (λ t. None) (reply_of replies) moments legal run

@@ -4,6 +4,7 @@ use Rattle.std.proofs.lemmas.List.{length-map}
 use Rattle.std.specs.Prelude.{Option, Some, None}
 use Rattle.edge_api.specs.Actor.{Event, Moves}
 use Rattle.op_types.specs.declared.statement.Statement.{Statement}
+use Rattle.op_types.specs.declared.reply.Reply.{Reply}
 use Rattle.txn_machine.specs.declared.txn.Txn.{Txn}
 use Rattle.actor_core.specs.declared.piece.Till.TheVariants.{End}
 use Rattle.actor_core.specs.declared.schedule.Item.{Item}
@@ -12,14 +13,19 @@ use Rattle.actor_core.specs.Schedule.{slots_of, to_the_end, FollowsSlots, Follow
 use Rattle.actor_core.proofs.Pieces.{Told}
 use Rattle.actor_core.proofs.Along.{runs_along, follows_along}
 use Rattle.sessions.specs.declared.session.Session.{Session}
-use Rattle.sessions.specs.Session.{Goes, place_now}
+use Rattle.sessions.specs.Session.{Goes, place_now, progress_of}
 use Rattle.sessions.specs.Under.{under}
 use Rattle.session_runs.specs.Run.{Begins, AllBegin}
-use Rattle.session_runs.specs.Order.{Spot, place_in, place_at, Passes, IsAtStart, AllAtStart}
+use Rattle.session_runs.specs.Order.{Spot, place_in, place_at, replies_at, Passes, IsAtStart, AllAtStart}
 
--- a session by its number and what is under way
+-- a session by its number and how far it is
 abbrev pub seen : Session → Spot
-seen s = record { actor = s.actor; now = under s.current }
+seen s = record { actor = s.actor; progress = progress_of s }
+
+-- the replies that are seen are the sessions' own
+pub replies_seen : (ss : List Session) → map replies_at (map seen ss) ≡ map (λ (s : Session). s.replies.items) ss
+replies_seen [] = refl
+replies_seen (s ∷ ss) = ap (λ (rs : List (List Reply)). s.replies.items ∷ rs) (replies_seen ss)
 
 place_seen : (o : Option Txn) → place_in (under o) ≡ place_now o
 place_seen None = refl

@@ -18,12 +18,9 @@ use Rattle.actor_core.specs.Piece.{RunsPiece, RunsAlone}
 use Rattle.actor_core.specs.Schedule.{FollowsSchedule, TakesTurns}
 use Rattle.actor_core.specs.Entries.{of_actor}
 use Rattle.sessions.specs.declared.session.Session.{Session}
-use Rattle.sessions.specs.Session.{plans_from, AnsweredTo, Remains, IsReady, Goes, place_now}
-use Rattle.sessions.specs.Under.{under, IsFresh}
-use Rattle.table_laws.specs.Conflicts.{Level}
-use Rattle.table_laws.specs.Folded.{RowsAreFolded}
-use Rattle.table_laws.specs.Laws.{VersionsAreSerial, CommitsOnce, FirstIsEmpty, CommitsLand, RepliesCommitted, RepliesRead}
-use Rattle.table_laws.specs.Refused.{RefusedCommitNothing}
+use Rattle.sessions.specs.Session.{plans_from, AnsweredTo, Remains, IsReady, Goes, place_now, progress_of}
+use Rattle.sessions.specs.Under.{IsBetween}
+use Rattle.table_laws.specs.Lawful.{IsLawful}
 
 -- what runs: the table that is made first, by actor 0, then the sessions' statements in the order of the items
 pub record Program : Type 0 where
@@ -83,7 +80,7 @@ Runs p before after replies = (part : List JournalEntry) × Grows before part af
 pub record Begins (actor limit : ℕ) (statements : List Statement) (s : Session) : Type 0 where
   pub ready : IsReady s
   pub number : s.actor ≡ actor
-  pub fresh : IsFresh actor (under s.current)
+  pub fresh : IsBetween actor (progress_of s)
   pub answers : (es : List JournalEntry) (all : List Reply) → Remains s es all → AnsweredTo None (plans_from actor limit 1 statements) es all
 
 -- a session for each list of statements, with the numbers from one on
@@ -100,21 +97,8 @@ pub record RunsInOrder (items : List Item) (before after : Option (List JournalE
   pub others_follow : FollowsSchedule (Moves Goes (λ (s : Session). s.actor)) (λ (s : Session). place_now s.current) items middle after others others_end
   pub others_turn : TakesTurns (Moves Goes (λ (s : Session). s.actor)) middle after others others_end
 
--- Each version follows from the one before at both levels, no statement commits twice, and version 0 has no rows. Each commit above version 0 was put at
--- each version above the one that was read, and lost only to other statements. Replies of commits and of rows say what was committed and what was read.
--- The rows of a version are what the operations up to it give, done one after another. A refused statement has committed no version, but where its refusal
--- leaves that open and the put of its commit was answered by a fault
-pub record IsLawful (scripts : List (List Statement)) (replies : List (List Reply)) (moments : List Moment) : Type 0 where
-  pub serial : (level : Level) → VersionsAreSerial level (statement_of scripts) moments
-  pub once : CommitsOnce moments
-  pub empty : FirstIsEmpty moments
-  pub lands : CommitsLand moments
-  pub committed : RepliesCommitted (statement_of scripts) (reply_of replies) moments
-  pub read : RepliesRead (statement_of scripts) (reply_of replies) moments
-  pub folded : RowsAreFolded (statement_of scripts) moments
-  pub refused : RefusedCommitNothing (statement_of scripts) (reply_of replies) moments
-
 -- from an empty journal on, every legal completion of the journal is lawful
 unfoldable pub IsSerial : Program → Option (List JournalEntry) → Option (List JournalEntry) → List (List Reply) → Type 0
 IsSerial p before after replies =
-    before ≡ Some [] → (journal : List JournalEntry) → after ≡ Some journal → (moments : List Moment) → IsLegal [] 0 moments → entries_of moments ≡ journal → IsLawful (scripts_of p) replies moments
+    before ≡ Some [] → (journal : List JournalEntry) → after ≡ Some journal → (moments : List Moment) → IsLegal [] 0 moments → entries_of moments ≡ journal
+    → IsLawful (statement_of (scripts_of p)) (reply_of replies) moments

@@ -1,7 +1,7 @@
 //! Sessions of statements over one table, run in the order of a schedule.
 #![tactic(auto)]
 
-ghost use Rattle.std.specs.Prelude.{◌≡◌, ◌≤◌, ◌<◌, ◌+◌, ◌++◌, [], ◌∷◌, length, All, map, IfOk, OnOk, OnErr, vec_capacity};
+ghost use Rattle.std.specs.Prelude.{◌≡◌, ◌≤◌, ◌<◌, ◌+◌, ◌++◌, [], ◌∷◌, length, All, map, IfOk, OnErr, vec_capacity};
 ghost use Rattle.edge_api.specs.Actor.{Moves};
 ghost use Rattle.actor_core.specs.Schedule.{FollowsSchedule, TakesTurns};
 ghost use Rattle.actor_core.specs.Faults.{FaultsAreCounted};
@@ -132,7 +132,7 @@ pub fn run_program<W: World>(
     requires plain { All (λ s. All IsPlain s.items) sessions.items }
     requires items { All (λ i. (0 < i.actor) × (i.actor ≤ length sessions.items)) items.now }
     ensures runs { IfOk result (λ replies. Runs (record { table = table; sessions = map (λ s. s.items) sessions.items; limit = limit; items = items.now }) (W.journal world.old) (W.journal world.new) replies.items) }
-    ensures follows { OnOk result (FollowsItems (record { table = table; sessions = map (λ s. s.items) sessions.items; limit = limit; items = items.now }) (W.journal world.old) (W.journal world.new)) }
+    ensures follows { IfOk result (λ replies. FollowsItems (record { table = table; sessions = map (λ s. s.items) sessions.items; limit = limit; items = items.now }) (W.journal world.old) (W.journal world.new) replies.items) }
     ensures serial { IfOk result (λ replies. IsSerial (record { table = table; sessions = map (λ s. s.items) sessions.items; limit = limit; items = items.now }) (W.journal world.old) (W.journal world.new) replies.items) }
     ensures none { OnErr result (W.journal world.new ≡ W.journal world.old) }
     ensures counted { FaultsAreCounted (W.journal world.old) (W.journal world.new) (W.faults world.old) (W.faults world.new) }

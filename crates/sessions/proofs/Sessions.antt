@@ -14,7 +14,7 @@ use Rattle.txn_machine.specs.Txn as txn
 use Rattle.txn_machine.specs.declared.stage.Plan.{Plan}
 use Rattle.txn_machine.specs.declared.txn.Txn.{Txn}
 use Rattle.sessions.specs.declared.session.Session.{Session}
-use Rattle.sessions.specs.Session.{Numbered, AllTagged, later_plans, RestNow, RestBy, Remains, RemainsAfter, Stops, IsAlive, HasCalls, count_of, Started, Begins, IsReplied, AllAnswered, AsksNow, Asks, left, left_now}
+use Rattle.sessions.specs.Session.{Numbered, AllTagged, later_plans, RestNow, RestBy, Remains, RemainsAfter, Stops, IsAlive, HasCalls, count_of, Started, Begins, IsDone, AllAnswered, AsksNow, Asks, left, left_now}
 
 -- the statement that was asked
 pub record Asked (old : Session) (tag : Tag) (call : Call) (t : Txn) : Type 0 where
@@ -109,7 +109,7 @@ first_answered killed ps later now replies es all none begins h =
     subst (λ (l : List Reply). AllAnswered killed ps es l) (sym whole) (begun_answered killed ps later now es h.0 begins h.2)
 
 -- a statement that has its reply, and the next
-pub settled : (killed : Bool) (t : Txn) (ps later : List Numbered) (now : Option Txn) (replies new : List Reply) (es : Entries) (all : List Reply) → Begins ps later now → IsReplied t replies new → RestBy killed new now later es all
+pub settled : (killed : Bool) (t : Txn) (ps later : List Numbered) (now : Option Txn) (replies new : List Reply) (es : Entries) (all : List Reply) → Begins ps later now → IsDone t replies new → RestBy killed new now later es all
     → RestBy killed replies (Some t) ps es all
 settled killed t ps later now replies new es all begins given h =
     let r = given.reply in

@@ -17,7 +17,7 @@ use Rattle.txn_machine.specs.Place.{place_of, IsCallAt}
 use Rattle.txn_machine.specs.Txn as txn
 use Rattle.txn_machine.specs.declared.txn.Txn.{Txn}
 use Rattle.sessions.specs.declared.session.Session.{Session}
-use Rattle.sessions.specs.Under.{under, IsLed}
+use Rattle.sessions.specs.Under.{under, Progress, IsLed}
 
 -- a statement under its tag, and the limit of its attempts
 pub record Numbered : Type 0 where
@@ -46,7 +46,8 @@ AllAnswered killed [] es rs = (es ≡ []) × (rs ≡ [])
 AllAnswered killed (p ∷ ps) es [] = ⊥
 AllAnswered killed (p ∷ ps) es (r ∷ rs) =
     ((killed ≡ true) × IsKilled p.tag r rs es × Answered p.tag p.limit None p.statement es None)
-    ⊎ ((own : Entries) × (rest : Entries) × (es ≡ own ++ rest) × AllTagged p.tag own × Answered p.tag p.limit None p.statement own (Some r) × AllAnswered killed ps rest rs)
+    ⊎ ((own : Entries) × (rest : Entries) × (es ≡ own ++ rest) × AllTagged p.tag own
+    × Answered p.tag p.limit None p.statement own (Some r) × AllAnswered killed ps rest rs)
 
 -- whether a session with so many entries is killed: where it has the number after which it is to be, and no session has more
 abbrev pub Stops : Option ℕ → ℕ → Bool → Type 0
@@ -88,9 +89,14 @@ abbrev pub place_now : Option Txn → Place
 place_now None = place.Done
 place_now (Some t) = place_of t.stage
 
--- An event leads from one session to the other, by what is under way. With its entry in front, what remains of the new one is what remains of the old one
+-- how far a session is
+abbrev pub progress_of : Session → Progress
+progress_of s = record { now = under s.current; replies = s.replies.items }
+
+-- An event leads from one session to the other, by what is under way and the replies. With its entry in front, what remains of the new one is what remains
+-- of the old one
 pub record Goes (old : Session) (event : Event) (new : Session) : Type 0 where
-  pub led : IsLed (under old.current) event (under new.current)
+  pub led : IsLed (progress_of old) event (progress_of new)
   pub leads : (es : Entries) (all : List Reply) → Remains new es all → Remains old (entries_of_events (event ∷ []) ++ es) all
 
 -- a statement is under way and makes a call next, or all are done
@@ -98,10 +104,11 @@ abbrev pub IsReadyNow : Option Txn → ℕ → List Statement → Type 0
 IsReadyNow None actor later = later ≡ []
 IsReadyNow (Some t) actor later = txn.IsReady t × (t.plan.tag.actor ≡ actor) × (0 < left_of t.plan t.stage)
 
--- the statement under way has the number before that of the next one, and has no more calls left than a new one
-abbrev pub IsCounted : Option Txn → ℕ → Type 0
-IsCounted None next = Unit {0}
-IsCounted (Some t) next = (t.plan.tag.statement + 1 ≡ next) × (left_of t.plan t.stage ≤ 3 * t.plan.limit + 2097200)
+-- the statement under way has the number behind so many replies and before that of the next one, and has no more calls left than a new one
+abbrev pub IsCounted : Option Txn → ℕ → ℕ → Type 0
+IsCounted None replies next = Unit {0}
+IsCounted (Some t) replies next = (t.plan.tag.statement + 1 ≡ next) × (t.plan.tag.statement ≡ replies + 1)
+    × (left_of t.plan t.stage ≤ 3 * t.plan.limit + 2097200)
 
 -- how many statements are under way
 abbrev pub count_now : Option Txn → ℕ
@@ -114,6 +121,7 @@ IsAlive None now = Unit {0}
 IsAlive (Some n) None = Unit {0}
 IsAlive (Some n) (Some t) = 0 < n
 
+-- a session that is to be killed has calls left
 abbrev pub HasCalls : Option ℕ → Type 0
 HasCalls None = Unit {0}
 HasCalls (Some n) = 0 < n
@@ -133,7 +141,7 @@ pub record IsSettled (s : Session) : Type 0 where
   pub limit : IsLimit s.limit
   pub room : length s.replies.items + count_now s.current + length s.later.items ≤ vec_capacity s.replies
   pub numbers : s.next + length s.later.items < 4294967296
-  pub counted : IsCounted s.current s.next
+  pub counted : IsCounted s.current (length s.replies.items) s.next
 
 -- the next call is made ready, and may be answered
 pub record IsReady (s : Session) : Type 0 where
@@ -146,9 +154,10 @@ pub record IsIdle (s : Session) : Type 0 where
   pub replies : s.replies.items ≡ []
   pub limit : IsLimit s.limit
   pub room : length s.later.items ≤ vec_capacity s.replies
-  pub first : 0 < s.next
+  pub first : s.next ≡ 1
   pub numbers : s.next + length s.later.items < 4294967296
 
+-- the statement under way has asked
 abbrev pub AsksNow : Option Txn → Tag → Call → Option Txn → Type 0
 AsksNow None tag call new = ⊥
 AsksNow (Some old) tag call None = ⊥
@@ -165,6 +174,7 @@ pub record Asks (old : Session) (tag : Tag) (call : Call) (new : Session) : Type
   pub replies : new.replies ≡ old.replies
   pub kill : new.kill ≡ old.kill
 
+-- how many answers the statement under way takes at most
 abbrev pub left_now : Option Txn → ℕ
 left_now None = 0
 left_now (Some t) = left_of t.plan t.stage
@@ -181,7 +191,7 @@ pub record Started (p : Numbered) (t : Txn) : Type 0 where
   pub left : left_of t.plan t.stage ≤ 3 * p.limit + 2097200
 
 -- the statement that is done has its reply, which is put behind the others
-pub record IsReplied (t : Txn) (old new : List Reply) : Type 0 where
+pub record IsDone (t : Txn) (old new : List Reply) : Type 0 where
   pub reply : Reply
   pub rest : Rest t.plan t.stage [] (Some reply)
   pub last : new ≡ old ++ reply ∷ []
@@ -191,21 +201,28 @@ abbrev pub Begins : List Numbered → List Numbered → Option Txn → Type 0
 Begins old new None = (old ≡ []) × (new ≡ [])
 Begins old new (Some t) = (p : Numbered) × (old ≡ p ∷ new) × Started p t
 
--- a statement with the number before the next one, not below the first: it is done already, or is to make its first call
-pub record IsNew (first next : ℕ) (t : Txn) : Type 0 where
-  pub number : t.plan.tag.statement + 1 ≡ next
-  pub further : first ≤ t.plan.tag.statement
+-- a statement with the number, before that of the next one: it is done already, or is to make its first call
+pub record IsNew (number next : ℕ) (t : Txn) : Type 0 where
+  pub is : t.plan.tag.statement ≡ number
+  pub next_is : t.plan.tag.statement + 1 ≡ next
   pub most : left_of t.plan t.stage ≤ 3 * t.plan.limit + 2097200
   pub stands : IfSome t.pending (λ call. place_of t.stage ≡ place.Between)
 
--- the same statement goes on, or one of a greater number that is to make its first call
-abbrev pub GoesOnBy : Txn → Txn → Type 0
-GoesOnBy old new = (new ≡ old) ⊎ ((old.plan.tag.statement < new.plan.tag.statement) × IfSome new.pending (λ call. place_of new.stage ≡ place.Between))
+-- the statement has its reply, and more may have theirs
+pub record HasEnded (t : Txn) (before after : List Reply) : Type 0 where
+  pub reply : Reply
+  pub rest : Rest t.plan t.stage [] (Some reply)
+  pub more : List Reply
+  pub all : after ≡ before ++ reply ∷ more
 
-abbrev pub GoesOn : Txn → Option Txn → Type 0
-GoesOn old None = Unit {0}
-GoesOn old (Some new) = (new ≡ old) ⊎ ((old.plan.tag.statement < new.plan.tag.statement) × (place_of new.stage ≡ place.Between))
+-- the same statement goes on, or it has its reply and the other one is new
+abbrev pub GoesOnBy : Txn → List Reply → Txn → List Reply → Type 0
+GoesOnBy old before new after = ((new ≡ old) × (after ≡ before)) ⊎ (HasEnded old before after × IfSome new.pending (λ call. place_of new.stage ≡ place.Between))
 
--- what was under way still is, or nothing is
-abbrev pub StaysOrEnds : Option Txn → Option Txn → Type 0
-StaysOrEnds old new = (new ≡ old) ⊎ (new ≡ None)
+-- the statement goes on, or it has its reply and a new one is under way or none
+abbrev pub GoesOn : Txn → List Reply → Option Txn → List Reply → Type 0
+GoesOn old before now after = ((now ≡ Some old) × (after ≡ before)) ⊎ (HasEnded old before after × IfSome now (λ t. place_of t.stage ≡ place.Between))
+
+-- what was under way still is, or the session was killed
+abbrev pub StaysOrEnds : Option Txn → List Reply → Option Txn → List Reply → Type 0
+StaysOrEnds old before new after = ((new ≡ old) × (after ≡ before)) ⊎ ((new ≡ None) × (after ≡ before ++ Killed ∷ []))

@@ -6,8 +6,8 @@ ghost use Rattle.txn_machine.specs.Machine.{left_of};
 ghost use Rattle.txn_machine.specs.Place.{place_of};
 ghost use Rattle.txn_machine.specs.Txn as txn_specs;
 ghost use Rattle.edge_api.specs.declared.actor.Stage.TheVariants as place;
-ghost use Rattle.sessions.specs.Session.{plans_from, later_plans, AnsweredTo, RestBy, Stops, Remains, RemainsAfter, HasCalls, count_of, Goes, IsLimit, IsReplied, IsIdle, IsAlive, Started, count_now, IsSettled, IsReady, Asks, left_now, left, place_now, Begins, IsCounted, IsNew, GoesOn, StaysOrEnds};
-ghost use Rattle.sessions.specs.Under.{under, IsFresh};
+ghost use Rattle.sessions.specs.Session.{plans_from, later_plans, AnsweredTo, RestBy, Stops, Remains, RemainsAfter, progress_of, HasCalls, count_of, Goes, IsLimit, IsDone, IsIdle, IsAlive, Started, count_now, IsSettled, IsReady, Asks, left_now, left, place_now, Begins, IsCounted, IsNew, GoesOn, StaysOrEnds};
+ghost use Rattle.sessions.specs.Under.{IsBetween};
 
 use edge_api::{Actor, Fed, Stage as Place, Step, Tag};
 use op_types::{Reply, Statement};
@@ -91,7 +91,7 @@ fn add_reply(replies: &mut Vec<Reply>, done: Txn)
     requires ready { txn_specs.IsReady done }
     requires done { done.pending ≡ None }
     requires room { length replies.old.items < vec_capacity replies.old }
-    ensures replied { IsReplied done replies.old.items replies.new.items }
+    ensures replied { IsDone done replies.old.items replies.new.items }
     ensures long { length replies.new.items ≡ length replies.old.items + 1 }
     ensures room { vec_capacity replies.old ≤ vec_capacity replies.new }
 {
@@ -120,7 +120,7 @@ impl Session {
         requires few { length statements.items ≤ 4096 }
         ensures ready { IfOk result IsReady }
         ensures actor { IfOk result (λ s. s.actor ≡ actor) }
-        ensures fresh { IfOk result (λ s. IsFresh actor (under s.current)) }
+        ensures fresh { IfOk result (λ s. IsBetween actor (progress_of s)) }
         ensures starts { IfOk result (λ s. (es : Entries) (all : List AReply) → Remains s es all → AnsweredTo kill (plans_from actor limit 1 statements.items) es all) }
     {
         let mut session = Session::idle(alloc, actor, statements, limit, kill)?;
@@ -161,7 +161,7 @@ impl Session {
         requires { IsIdle self.old }
         ensures ready { IsReady self.new }
         ensures actor { self.new.actor ≡ self.old.actor }
-        ensures fresh { IsFresh self.old.actor (under self.new.current) }
+        ensures fresh { IsBetween self.old.actor (progress_of self.new) }
         ensures starts { (es : Entries) (all : List AReply) → Remains self.new es all → AnsweredTo self.old.kill (later_plans self.old) es all }
     {
         let first = begin(
@@ -220,7 +220,7 @@ impl Session {
         requires { IsSettled self.old }
         ensures ready { IsReady self.new }
         ensures actor { self.new.actor ≡ self.old.actor }
-        ensures now { StaysOrEnds self.old.current self.new.current }
+        ensures now { StaysOrEnds self.old.current self.old.replies.items self.new.current self.new.replies.items }
         ensures remains { (es : Entries) (all : List AReply) → Remains self.new es all → Remains self.old es all }
         ensures falls { left self.new ≤ left self.old }
     {
@@ -235,8 +235,9 @@ impl Session {
         requires calls { HasCalls self.old.kill }
         ensures ready { IsReady self.new }
         ensures actor { self.new.actor ≡ self.old.actor }
-        ensures now { StaysOrEnds self.old.current self.new.current }
+        ensures now { StaysOrEnds self.old.current self.old.replies.items self.new.current self.new.replies.items }
         ensures remains { (es : Entries) (all : List AReply) → Remains self.new es all → RemainsAfter (if heard then 1 else 0) self.old es all }
+        ensures kept { IsFalse heard → (self.new.current ≡ self.old.current) × (self.new.replies.items ≡ self.old.replies.items) }
         ensures falls { left self.new ≤ left self.old }
     {
         if heard {
@@ -262,6 +263,7 @@ impl Session {
         ensures numbers { self.new.next + length self.new.later.items < 4294967296 }
         ensures fewer { count_now result + length self.new.later.items ≡ length self.old.later.items }
         ensures last { result ≡ None → self.new.later.items ≡ [] }
+        ensures replied { IsDone done self.old.replies.items self.new.replies.items }
         ensures fresh { IfSome result (IsNew self.old.next self.new.next) }
         ensures left { left_now result ≤ count_now result * (3 * self.old.limit + 2097201) }
         ensures turns { (killed : Bool) (es : Entries) (all : List AReply) → RestBy killed self.new.replies.items result (later_plans self.new) es all → RestBy killed self.old.replies.items (Some done) (later_plans self.old) es all }
@@ -284,9 +286,9 @@ impl Session {
         requires none { self.old.current ≡ None }
         requires room { length self.old.replies.items + 1 + length self.old.later.items ≤ vec_capacity self.old.replies }
         requires numbers { self.old.next + length self.old.later.items < 4294967296 }
-        requires counted { IsCounted (Some txn) self.old.next }
+        requires counted { IsCounted (Some txn) (length self.old.replies.items) self.old.next }
         ensures settled { IsSettled self.new }
-        ensures goes_on { GoesOn txn self.new.current }
+        ensures goes_on { GoesOn txn self.old.replies.items self.new.current self.new.replies.items }
         ensures actor { self.new.actor ≡ self.old.actor }
         ensures kill { self.new.kill ≡ self.old.kill }
         ensures settles { (killed : Bool) (es : Entries) (all : List AReply) → RestBy killed self.new.replies.items self.new.current (later_plans self.new) es all → RestBy killed self.old.replies.items (Some txn) (later_plans self.old) es all }

@@ -11,8 +11,9 @@ use Rattle.txn_machine.specs.Texts.{read_commit, read_file}
 use Rattle.table_laws.specs.Rows.{Row}
 use Rattle.table_laws.specs.Operations.{Operation, Insert, Change, Compact, scope_of, result_of, is_insert, is_compaction, any_row, got_files, removed_files}
 use Rattle.table_laws.specs.Files.{rows_in, lines_of}
-use Rattle.table_laws.specs.Effects.{may_match, new_rows, new_file, effect_of}
-use Rattle.table_laws.specs.Conflicts.{Level, first_clash}
+use Rattle.table_laws.proofs.CommitEffects.{may_match, new_rows, new_file, effect_of}
+use Rattle.table_laws.specs.Levels.{Level}
+use Rattle.table_laws.proofs.Clashes.{first_clash}
 use Rattle.table_laws.specs.History.{Put, or_none, or_nothing, commit_at, rows_of}
 use Rattle.table_laws.specs.Runs.{LoadedTo}
 use Rattle.table_laws.proofs.Files.{in-cons}

@@ -12,12 +12,11 @@ use Rattle.op_types.specs.declared.statement.Statement.{Statement}
 use Rattle.table_rules.specs.Names.{commit_text}
 use Rattle.table_laws.specs.Rows.{Row}
 use Rattle.table_laws.specs.Operations.{Operation, Insert, Change, Compact, operation_of, scope_of, result_of, operated}
-use Rattle.table_laws.specs.Conflicts.{Serializable}
+use Rattle.table_laws.specs.Levels.{Serializable}
 use Rattle.table_laws.specs.Serial.{missed}
 use Rattle.table_laws.specs.History.{Put, history, put_under, rows_at}
 use Rattle.table_laws.specs.Laws.{statement_of, operation_by, VersionsAreSerial, FirstIsEmpty}
-use Rattle.table_laws.specs.Folded.{done_by, folded, RowsAreFolded, EachVersionIsFolded}
-use Rattle.table_laws.proofs.Serial.{each_version_is_serial, first_version_is_empty}
+use Rattle.table_laws.specs.Folded.{done_by, folded, RowsAreFolded}
 
 same_filter : (p : Row → Bool) (xs ys : List Row) → SameRows xs ys → SameRows (filter p xs) (filter p ys)
 same_filter = SameBag-filter row_eq row_decides
@@ -62,7 +61,3 @@ rows_are_folded script moments serial empty (suc v) small is =
     let two = same_operated s.op (rows_at ps v) (folded script ps v) rest in
     let is_op = operation_is script ps v s.by s.statement s.op s.is_by s.is_statement s.is_op in
     λ x. one x ∙ two x ∙ ap (λ (o : Option Operation). count_of x (done_by o (folded script ps v))) (sym is_op)
-
-pub each_version_is_folded : EachVersionIsFolded
-each_version_is_folded limit script kepts replies moments legal run =
-    rows_are_folded script moments (each_version_is_serial Serializable limit script kepts replies moments legal run) (first_version_is_empty moments)

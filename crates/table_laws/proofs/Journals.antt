@@ -11,7 +11,7 @@ use Rattle.edge_api.specs.declared.call.Answer.{Answer}
 use Rattle.edge_api.specs.declared.call.Answer.TheVariants.{Fault, Body, Missing, Stored, Taken, Names, Gone, Time, Waited}
 use Rattle.edge_api.specs.declared.call.JournalEntry.{JournalEntry}
 use Rattle.edge_api.specs.declared.call.Object.{Object}
-use Rattle.edge_api.specs.Journal.{Objects, Moment, IsLegal, Answers, answer_of, after, after_answer, effect_of, entries_of, object_at, with_object, found, stored, stored_new}
+use Rattle.edge_api.specs.Journal.{Objects, Moment, IsLegal, Answers, same_tag, answer_of, after_moment, after_answer, effect_of, entries_of, object_at, with_object, read_answer, put_new_answer, put_new_objects}
 use Rattle.op_types.specs.declared.statement.Statement.{Statement}
 use Rattle.op_types.specs.declared.statement.Statement.TheVariants.{Table}
 use Rattle.op_types.specs.declared.statement.TableSpec.{TableSpec}
@@ -24,12 +24,12 @@ use Rattle.snapshot_replay.specs.Table.{Snapshot}
 use Rattle.call_phases.specs.Phases.{Entries}
 use Rattle.txn_machine.specs.Texts.{read_commit}
 use Rattle.txn_machine.specs.Answered.{names_of}
-use Rattle.actor_core.specs.Entries.{same_tag, own}
+use Rattle.actor_core.specs.Entries.{own}
 use Rattle.actor_core.proofs.Owners.{same_tag-refl, same_tag_is}
 use Rattle.table_laws.specs.Rows.{Row}
 use Rattle.table_laws.specs.Operations.{Operation, operation_of}
-use Rattle.table_laws.specs.Effects as effects
-use Rattle.table_laws.specs.Conflicts.{Level}
+use Rattle.table_laws.proofs.CommitEffects as effects
+use Rattle.table_laws.specs.Levels.{Level}
 use Rattle.table_laws.specs.History.{Put, put_under, body_of, put_if_free, puts_of, if_done, puts_at, history}
 use Rattle.table_laws.specs.Runs.{or_first, listed_by, told_by, version_put, with_version, versions_put, first_given, GotIn, StoredIn}
 use Rattle.table_laws.proofs.Lawful.{Known, PutIn, NoPut, FoundMissing, first_past, Knows, versions_down, IsCommitOf, MayPut, IsFile, IsTable, IsCommit, LawfulBy, AllLawful}
@@ -254,14 +254,14 @@ module _ (level : Level) (K : Tag → List ℕ → List ℕ → Type 0) (script 
   keeps_one t true (Some statement) r e past es h = h.1
   keeps_one t false s r e past es h = h
 
-  keeps_rest : (past : Entries) (e : JournalEntry) (es : Entries) → Keeps past (e ∷ es) → Keeps (e ∷ past) es
+  pub keeps_rest : (past : Entries) (e : JournalEntry) (es : Entries) → Keeps past (e ∷ es) → Keeps (e ∷ past) es
   keeps_rest past e es h t = keeps_one t (same_tag t e.tag) (script t) (replies t) e (own t past) (own t es) (h t)
 
   lawful_one : (t : Tag) (s : Option Statement) (r : Option Reply) (e : JournalEntry) (past es : Entries) → KeepsPart t s r past (e ∷ es) → (statement : Statement) × (s ≡ Some statement) × LawfulBy level (K t) t statement past e.call
   lawful_one t None r e past es h = cc
   lawful_one t (Some statement) r e past es h = (statement, refl, h.0)
 
-  lawful_next : (past : Entries) (e : JournalEntry) (es : Entries) → Keeps past (e ∷ es) → (statement : Statement) × (script e.tag ≡ Some statement) × LawfulBy level (K e.tag) e.tag statement (own e.tag past) e.call
+  pub lawful_next : (past : Entries) (e : JournalEntry) (es : Entries) → Keeps past (e ∷ es) → (statement : Statement) × (script e.tag ≡ Some statement) × LawfulBy level (K e.tag) e.tag statement (own e.tag past) e.call
   lawful_next past e es h =
       lawful_one e.tag (script e.tag) (replies e.tag) e (own e.tag past) (own e.tag es)
       (subst (λ (b : Bool). KeepsPart e.tag (script e.tag) (replies e.tag) (own e.tag past) (if b then e ∷ own e.tag es else own e.tag es)) (same_tag-refl e.tag) (h e.tag))
@@ -372,13 +372,13 @@ module _ (level : Level) (K : Tag → List ℕ → List ℕ → Type 0) (script 
   new_commit : (tag : Tag) (statement : Statement) (past : Entries) (name body : List ℕ) (v : ℕ) → suc v < 2 ^ 64 → MayPut level (K tag) tag statement past name body → name ≡ commit_text (suc v)
       → (k : IsCommitOf level (K tag) tag statement past name body) × (k.version ≡ v)
   new_commit tag statement past name body v small (IsFile start is fresh) h = absurd (data_is_no_commit tag start 0 (suc v) (sym is ∙ h))
-  new_commit tag statement past name body v small (IsTable spec is_table is text) h = let e : ◌≡◌ {A = ℕ} 0 (suc v) = commits_differ 0 (suc v) (omega arith) small (sym is ∙ h) in absurd (omega arith)
+  new_commit tag statement past name body v small (IsTable spec is_table is text none) h = let e : ◌≡◌ {A = ℕ} 0 (suc v) = commits_differ 0 (suc v) (omega arith) small (sym is ∙ h) in absurd (omega arith)
   new_commit tag statement past name body v small (IsCommit k) h = (k, suc_same k.version v (commits_differ (suc k.version) (suc v) k.small small (sym k.is ∙ h)))
 
   new_table : (tag : Tag) (statement : Statement) (past : Entries) (name body : List ℕ) → script tag ≡ Some statement → MayPut level (K tag) tag statement past name body → name ≡ commit_text 0
       → (spec : TableSpec) × (script tag ≡ Some (Table spec)) × (body ≡ text_of_columns (names_of spec.columns))
   new_table tag statement past name body by (IsFile start is fresh) h = absurd (data_is_no_commit tag start 0 0 (sym is ∙ h))
-  new_table tag statement past name body by (IsTable spec is_table is text) h = (spec, by ∙ ap (λ (s : Statement). Some s) is_table, text)
+  new_table tag statement past name body by (IsTable spec is_table is text none) h = (spec, by ∙ ap (λ (s : Statement). Some s) is_table, text)
   new_table tag statement past name body by (IsCommit k) h = let e : ◌≡◌ {A = ℕ} (suc k.version) 0 = commits_differ (suc k.version) 0 k.small (omega arith) (sym k.is ∙ h) in absurd (omega arith)
 
   no_operation : (spec : TableSpec) (statement : Statement) (op : Operation) → Table spec ≡ statement → operation_of statement ≡ Some op → ⊥
@@ -395,9 +395,19 @@ module _ (level : Level) (K : Tag → List ℕ → List ℕ → Type 0) (script 
           | inr other ↦ other.2 (sym (some_same q.body other.0 (sym (ap body_of old) ∙ s.got (commit_text (suc v)) other.0 (own_got tag past _ _ other.1))))
         ]
 
+    -- what stands under a commit's name that it may put is not its own
+    pub not_own : MayPut level (K tag) tag statement (own tag past) name body → (version : ℕ) → name ≡ commit_text version → (q : Put) → put_under ps name ≡ Some q → q.tag ≡ tag → ⊥
+    not_own (IsFile start is fresh) version at q there same = data_is_no_commit tag start 0 version (sym is ∙ at)
+    not_own (IsTable spec is_table is text none) version at q there same =
+        let m = s.made name q there in
+        none name q.body m.answer (subst (λ (t : Tag). PutIn (own t past) name q.body m.answer) same m.made)
+    not_own (IsCommit k) version at q there same =
+        let here : put_under ps (commit_text (suc k.version)) ≡ Some q = ap (λ (n : List ℕ). put_under ps n) (sym k.is) ∙ there in
+        not_lost k.version q here (s.commits k.version q k.small here) (sym same) k
+
     quiet : MayPut level (K tag) tag statement (own tag past) name body → (v : ℕ) (q : Put) → put_under ps (commit_text (suc v)) ≡ Some q → Committed past ps v q → tag ≡ q.tag → version_put (PutNew name body) ≡ None
     quiet (IsFile start is fresh) v q old there same = ap (λ (n : List ℕ). version_put (PutNew n body)) is ∙ data_put tag start body
-    quiet (IsTable spec is_table is text) v q old there same =
+    quiet (IsTable spec is_table is text none) v q old there same =
         absurd (no_operation spec there.statement there.op (sym is_table ∙ some_same statement there.statement (sym is_statement ∙ ap script same ∙ there.is_statement)) there.is_op)
     quiet (IsCommit k) v q old there same = absurd (not_lost v q old there same k)
 
@@ -437,7 +447,7 @@ module _ (level : Level) (K : Tag → List ℕ → List ℕ → Type 0) (script 
 
     free_by : MayPut level (K tag) tag statement (own tag past) name body → put_under ps name ≡ None
     free_by (IsFile start is fresh) = ap (λ (n : List ℕ). put_under ps n) is ∙ free_file start is fresh (put_under ps (data_text tag start 0)) refl
-    free_by (IsTable spec is_table is text) = free_log 0 is
+    free_by (IsTable spec is_table is text none) = free_log 0 is
     free_by (IsCommit k) = free_log (suc k.version) k.is
 
     there_now : put_under more name ≡ Some the_put
@@ -485,7 +495,7 @@ module _ (level : Level) (K : Tag → List ℕ → List ℕ → Type 0) (script 
       where
         mine : MayPut level (K tag) tag statement (own tag past) name body → name ≡ data_text t start 0 → tag ≡ t
         mine (IsFile i is fresh) h = same_file tag t i start (tags tag statement is_statement) right (sym is ∙ h)
-        mine (IsTable spec is_table is text) h = absurd (data_is_no_commit t start 0 0 (sym h ∙ is))
+        mine (IsTable spec is_table is text none) h = absurd (data_is_no_commit t start 0 0 (sym h ∙ is))
         mine (IsCommit k) h = absurd (data_is_no_commit t start 0 (suc k.version) (sym h ∙ k.is))
 
     add_made : (n : List ℕ) (q : Put) → put_under more n ≡ Some q → IsMadeIn (the_entry ∷ past) n q
@@ -591,7 +601,7 @@ module _ (level : Level) (K : Tag → List ℕ → List ℕ → Type 0) (script 
         subst (λ (o : Objects). Stands (e ∷ past) o (ps ++ new)) (sym same)
         (subst (λ (q : List Put). Stands (e ∷ past) os q) (sym (ap (λ (q : List Put). ps ++ q) none ∙ append-nil ps)) here)
 
-    body_found : (o : Option Object) (a : Answer) (b : List ℕ) → Answers a (found o) → a ≡ Body b → body_at o ≡ Some b
+    body_found : (o : Option Object) (a : Answer) (b : List ℕ) → Answers a (read_answer o) → a ≡ Body b → body_at o ≡ Some b
     body_found o Fault b right is = cc
     body_found (Some x) (Body d) b right is = cc
     body_found None (Body d) b right is = cc
@@ -606,14 +616,14 @@ module _ (level : Level) (K : Tag → List ℕ → List ℕ → Type 0) (script 
     same_name : (m n : List ℕ) → Get m ≡ Get n → m ≡ n
     same_name m n h = cc
 
-    get_shows : (name : List ℕ) (a : Answer) → Answers a (found (object_at os name)) → (n b : List ℕ) → Get name ≡ Get n → a ≡ Body b → InPut ps n b
+    get_shows : (name : List ℕ) (a : Answer) → Answers a (read_answer (object_at os name)) → (n b : List ℕ) → Get name ≡ Get n → a ≡ Body b → InPut ps n b
     get_shows name a right n b is body = subst (λ (m : List ℕ). InPut ps m b) (same_name name n is) (s.agree name b (body_found (object_at os name) a b right body))
 
-    none_found : (o : Option Object) (a : Answer) → Answers a (found o) → a ≡ Missing → o ≡ None
+    none_found : (o : Option Object) (a : Answer) → Answers a (read_answer o) → a ≡ Missing → o ≡ None
     none_found None a right is = refl
     none_found (Some x) a right is = let none : Answers Missing (Body x.body) = subst (λ (b : Answer). Answers b (Body x.body)) is right in cc
 
-    get_misses : (name : List ℕ) (a : Answer) → Answers a (found (object_at os name)) → (v : ℕ) → Get name ≡ Get (commit_text v) → a ≡ Missing → put_under ps (commit_text v) ≡ None
+    get_misses : (name : List ℕ) (a : Answer) → Answers a (read_answer (object_at os name)) → (v : ℕ) → Get name ≡ Get (commit_text v) → a ≡ Missing → put_under ps (commit_text v) ≡ None
     get_misses name a right v is none = s.logs v (subst (λ (m : List ℕ). object_at os m ≡ None) (same_name name (commit_text v) is) (none_found (object_at os name) a right none))
 
     not_stored : (a : Answer) → Answers a Taken → a ≡ Stored → ⊥
@@ -639,7 +649,7 @@ module _ (level : Level) (K : Tag → List ℕ → List ℕ → Type 0) (script 
       object_now = record { body = body; put_at = clock }
 
       abbrev Next : Answer → Bool → Option Object → Type 0
-      Next a u o = Stands (entry_of a ∷ past) (after_answer a u os (stored_new o os name object_now)) (ps ++ if_done a u (put_if_free o put_here))
+      Next a u o = Stands (entry_of a ∷ past) (after_answer a u os (put_new_objects o os name object_now)) (ps ++ if_done a u (put_if_free o put_here))
 
       at_free : (a : Answer) (u : Bool) → object_at os name ≡ None → Answers a Stored → Next a u None
       at_free Stored u free right = added past os ps s tag name body Stored clock statement is_statement may free (λ h. cc)
@@ -656,11 +666,11 @@ module _ (level : Level) (K : Tag → List ℕ → List ℕ → Type 0) (script 
       at_there : (a : Answer) (u : Bool) (o : Object) → Answers a Taken → Next a u (Some o)
       at_there a u o right = idle (entry_of a) (after_answer a u os os) (if_done a u []) (same_after a u os) (same_if_done a u) (λ n b h k. cc) (λ v h k. cc) (λ n b h k. not_stored a right k) (quiet past os ps s tag statement is_statement name body may)
 
-      at_either : (a : Answer) (u : Bool) (o : Option Object) → object_at os name ≡ o → Answers a (stored o) → Next a u o
+      at_either : (a : Answer) (u : Bool) (o : Option Object) → object_at os name ≡ o → Answers a (put_new_answer o) → Next a u o
       at_either a u None is right = at_free a u is right
       at_either a u (Some o) is right = at_there a u o right
 
-    call_step : (tag : Tag) (call : Call) (a : Answer) (clock : ℕ) (u : Bool) (statement : Statement) → script tag ≡ Some statement → LawfulBy level (K tag) tag statement (own tag past) call → Answers a (answer_of os clock call)
+    pub call_step : (tag : Tag) (call : Call) (a : Answer) (clock : ℕ) (u : Bool) (statement : Statement) → script tag ≡ Some statement → LawfulBy level (K tag) tag statement (own tag past) call → Answers a (answer_of os clock call)
         → Stands (record { tag = tag; call = call; answer = a } ∷ past) (after_answer a u os (effect_of os clock call)) (ps ++ if_done a u (puts_of os tag clock call))
     call_step tag (Get name) a clock u statement is_statement lawful right = idle (record { tag = tag; call = Get name; answer = a }) (after_answer a u os os) (if_done a u []) (same_after a u os) (same_if_done a u) (get_shows name a right) (get_misses name a right) (λ n b h k. cc) (λ v p h k is. refl)
     call_step tag (PutNew name body) a clock u statement is_statement lawful right = at_either tag name body clock statement is_statement lawful a u (object_at os name) refl right
@@ -710,7 +720,7 @@ module _ (level : Level) (K : Tag → List ℕ → List ℕ → Type 0) (script 
   whole [] past os ps clock s legal keeps = subst (End past []) (sym (append-nil ps)) (record { past = past; is = refl; os = os; stands = s; keeps = keeps })
   whole (m ∷ ms) past os ps clock s legal keeps =
       let next = lawful_next past m.entry (entries_of ms) keeps in
-      let here = call_step past os ps s m.entry.tag m.entry.call m.entry.answer m.clock m.took_effect next.0 next.1 next.2 legal.1 in
-      let rest = whole ms (m.entry ∷ past) (after os m) (ps ++ puts_at os m) m.clock here legal.2 (keeps_rest past m.entry (entries_of ms) keeps) in
-      subst (End past (m.entry ∷ entries_of ms)) (append_assoc ps (puts_at os m) (history (after os m) ms))
+      let here = call_step past os ps s m.entry.tag m.entry.call m.entry.answer m.clock m.took_effect next.0 next.1 next.2 legal.2 in
+      let rest = whole ms (m.entry ∷ past) (after_moment os m) (ps ++ puts_at os m) m.clock here legal.3 (keeps_rest past m.entry (entries_of ms) keeps) in
+      subst (End past (m.entry ∷ entries_of ms)) (append_assoc ps (puts_at os m) (history (after_moment os m) ms))
       (record { past = rest.past; is = rest.is; os = rest.os; stands = rest.stands; keeps = rest.keeps })

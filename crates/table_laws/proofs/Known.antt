@@ -7,7 +7,8 @@ use Rattle.snapshot_replay.specs.Table.{Commit, Snapshot}
 use Rattle.txn_machine.specs.Texts.{read_file}
 use Rattle.table_laws.specs.Rows.{Row}
 use Rattle.table_laws.specs.Operations.{Operation}
-use Rattle.table_laws.specs.Conflicts.{Level, FileClash}
+use Rattle.table_laws.specs.Levels.{Level}
+use Rattle.table_laws.proofs.Clashes.{FileClash}
 use Rattle.table_laws.specs.Runs.{LoadedTo}
 use Rattle.table_laws.proofs.Lawful.{AllGot, AllScanned, Cleared, Knows}
 

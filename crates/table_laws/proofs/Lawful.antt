@@ -7,6 +7,7 @@ use Rattle.edge_api.specs.declared.call.Call.TheVariants.{Get, PutNew, Put as Re
 use Rattle.edge_api.specs.declared.call.Answer.{Answer}
 use Rattle.edge_api.specs.declared.call.Answer.TheVariants.{Fault, Missing, Taken}
 use Rattle.row_base.specs.declared.row.ScannedFile.{ScannedFile}
+use Rattle.row_base.specs.Sorting.{Sorts}
 use Rattle.op_types.specs.declared.statement.Statement.{Statement}
 use Rattle.op_types.specs.declared.statement.TableSpec.{TableSpec}
 use Rattle.op_types.specs.declared.statement.Statement.TheVariants.{Table}
@@ -18,11 +19,12 @@ use Rattle.line_texts.specs.Texts.{text_of_columns}
 use Rattle.snapshot_replay.specs.Table.{Add, Commit, Snapshot, paths_of}
 use Rattle.call_phases.specs.Phases.{Entries}
 use Rattle.txn_machine.specs.Texts.{read_commit, read_file}
-use Rattle.txn_machine.specs.Answered.{names_of, rows_of_files, Sorts}
+use Rattle.txn_machine.specs.Answered.{names_of, rows_of_files}
 use Rattle.table_laws.specs.Rows.{Row}
 use Rattle.table_laws.specs.Operations.{Operation, operation_of, scope_of, got_files, removed_files}
-use Rattle.table_laws.specs.Effects.{may_match, new_rows, effect_of}
-use Rattle.table_laws.specs.Conflicts.{Level, FileClash, first_clash}
+use Rattle.table_laws.proofs.CommitEffects.{may_match, new_rows, effect_of}
+use Rattle.table_laws.specs.Levels.{Level}
+use Rattle.table_laws.proofs.Clashes.{FileClash, first_clash}
 use Rattle.table_laws.specs.Runs.{or_first, listed_by, told_by, versions_put, GotIn, StoredIn, LoadedTo}
 use Rattle.table_laws.specs.Refused.{IsUnknown}
 
@@ -128,9 +130,16 @@ pub record ClaimsRows (K : List ℕ → List ℕ → Type 0) (past : Entries) (v
   pub files_read : read ≡ length got
   pub files_live : live ≡ length s.files
 
+-- a statement made a table: its only put of a commit, that of version 0, was answered as stored, or by a fault, and then its text was read back
+pub record ClaimsCreated (statement : Statement) (past : Entries) : Type 0 where
+  pub spec : TableSpec
+  pub is_table : statement ≡ Table spec
+  pub puts : versions_put past ≡ 0 ∷ []
+  pub there : let text = text_of_columns (names_of spec.columns) in StoredIn past (commit_text 0) text ⊎ (GotIn past (commit_text 0) text × PutIn past (commit_text 0) text Fault)
+
 -- what a reply claims of all entries of its statement
 abbrev pub ClaimOf : (List ℕ → List ℕ → Type 0) → Tag → Statement → Entries → Reply → Type 0
-ClaimOf K tag statement past Created = Unit {0}
+ClaimOf K tag statement past Created = ClaimsCreated statement past
 ClaimOf K tag statement past (Committed version read attempts checkpoint) = ClaimsCommit tag past version read attempts
 ClaimOf K tag statement past (Rows version rows files_read files_live) = ClaimsRows K past version rows files_read files_live
 ClaimOf K tag statement past Killed = Unit {0}
@@ -164,7 +173,7 @@ pub record IsCommitOf (level : Level) (K : List ℕ → List ℕ → Type 0) (ta
 -- a statement's data file, the commit that makes a table, or another commit
 pub data MayPut (level : Level) (K : List ℕ → List ℕ → Type 0) (tag : Tag) (statement : Statement) (past : Entries) (name body : List ℕ) : Type 0 where
   IsFile : (start : ℕ) → name ≡ data_text tag start 0 → NoPut past → MayPut level K tag statement past name body
-  IsTable : (spec : TableSpec) → statement ≡ Table spec → name ≡ commit_text 0 → body ≡ text_of_columns (names_of spec.columns) → MayPut level K tag statement past name body
+  IsTable : (spec : TableSpec) → statement ≡ Table spec → name ≡ commit_text 0 → body ≡ text_of_columns (names_of spec.columns) → NoPut past → MayPut level K tag statement past name body
   IsCommit : IsCommitOf level K tag statement past name body → MayPut level K tag statement past name body
 
 abbrev pub LawfulBy : Level → (List ℕ → List ℕ → Type 0) → Tag → Statement → Entries → Call → Type 0

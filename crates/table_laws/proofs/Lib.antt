@@ -1,3 +1,5 @@
+pub mod Clashes
+pub mod CommitEffects
 pub mod Files
 pub mod Live
 pub mod Winners
@@ -15,3 +17,6 @@ pub mod Tries
 pub mod Serial
 pub mod Folded
 pub mod Refused
+pub mod Moments
+pub mod Created
+pub mod Run

@@ -8,7 +8,7 @@ use Rattle.row_base.specs.Bags.{count_of}
 use Rattle.snapshot_replay.specs.Table.{Add, Action, Removes, Adds, Commit, without_path, placed, reconciled, paths_of}
 use Rattle.table_laws.specs.Rows.{Row}
 use Rattle.table_laws.specs.Files.{live_by, removes_lines, rows_in, has_path}
-use Rattle.table_laws.specs.Conflicts.{first_removed, first_match}
+use Rattle.table_laws.proofs.Clashes.{first_removed, first_match}
 use Rattle.table_laws.proofs.Files.{times, is_one, times-cons, times-placed, self_path, times-without_same, times-without_other, AllOnce, in-cons}
 
 is_one_is : (p : List ℕ) (a : Add) (b : Bool) → bytes_eq a.path p ≡ b → is_one p a ≡ (if b then 1 else 0)

@@ -34,7 +34,7 @@ use Rattle.txn_machine.specs.Judging.{Bodies, Judges, verdict_of}
 use Rattle.txn_machine.specs.Phases.{IsOpen, IsCutShort, Ends, Cut, Replies, AtLoad}
 use Rattle.txn_machine.specs.Texts.{read_commit}
 use Rattle.txn_machine.specs.Answered.{refusal_of}
-use Rattle.table_laws.specs.Conflicts.{Level}
+use Rattle.table_laws.specs.Levels.{Level}
 use Rattle.table_laws.specs.Runs.{or_first, listed_by, told_by, LoadedTo}
 use Rattle.table_laws.specs.Refused.{IsUnknown}
 use Rattle.table_laws.proofs.Lawful.{Known, NoPut, IsLost, AllLost, AllInDoubt, ClaimsNothing, first_past, ClaimOf, Claim, MayPut, LawfulBy, AllLawful}
@@ -251,7 +251,7 @@ module _ (level : Level) (K : List ℕ → List ℕ → Type 0) (tag : Tag) (sta
       → (e.answer ≡ Taken) ⊎ (body ≡ j.text → ⊥) → verdict_of j body ≡ verdict.Clear winner → terms.first + lost < 2 ^ 64 → P lost past → P (suc lost) (f ∷ e ∷ past))
       (wins : (lost : ℕ) (past : Entries) (e : JournalEntry) (l : Landed) → e.call ≡ PutNew (commit_text (terms.first + lost)) j.text → e.answer ≡ Stored → l.version ≡ terms.first + lost → l.attempts ≡ suc lost
       → terms.first + lost < 2 ^ 64 → P lost past → ClaimOf K tag statement (e ∷ past) (landed l))
-      (finds : (lost : ℕ) (past : Entries) (e f : JournalEntry) (l : Landed) → e.call ≡ PutNew (commit_text (terms.first + lost)) j.text → f.call ≡ Get (commit_text (terms.first + lost)) → f.answer ≡ Body j.text → l.version ≡ terms.first + lost → l.attempts ≡ suc lost
+      (finds : (lost : ℕ) (past : Entries) (e f : JournalEntry) (l : Landed) → e.call ≡ PutNew (commit_text (terms.first + lost)) j.text → e.answer ≡ Fault → f.call ≡ Get (commit_text (terms.first + lost)) → f.answer ≡ Body j.text → l.version ≡ terms.first + lost → l.attempts ≡ suc lost
       → terms.first + lost < 2 ^ 64 → P lost past → ClaimOf K tag statement (f ∷ e ∷ past) (landed l)) where
     abbrev open_end : Option Reply → CommitJudge → Type 0
     open_end reply j = IsOpen reply
@@ -275,17 +275,17 @@ module _ (level : Level) (K : List ℕ → List ℕ → Type 0) (tag : Tag) (sta
         → ((body : List ℕ) (past rest : Entries) → P (suc lost) past → again body j rest → Lawful reply past rest) → Lawful reply past es
     at_commit_put reply lost l again past es version attempts small p h k =
         at_put_new (commit_text (terms.first + lost)) j.text reply _ _ _ past es (all_lost lost past p) (puts lost past small p) h
-        (λ e rest put is on. at_read_back _ _ (commit_text (terms.first + lost)) j.text reply _ e past rest put is (all_lost lost past p) on (λ body f rest' got answer on'. back e f body rest' put got answer (bytes_eq body j.text) refl on'))
+        (λ e rest put is on. at_read_back _ _ (commit_text (terms.first + lost)) j.text reply _ e past rest put is (all_lost lost past p) on (λ body f rest' got answer on'. back e f body rest' put is got answer (bytes_eq body j.text) refl on'))
         (λ e rest put is on. replied (landed l) reply (e ∷ past) rest (wins lost past e l put is version attempts small p) on)
         (λ e rest put is on. at_get _ _ (commit_text (terms.first + lost)) reply _ (e ∷ past) rest (lost_taken e past is (all_lost lost past p)) on (λ body f rest' got answer on'.
         judged reply (terms.first + lost) body (again body) (f ∷ e ∷ past) rest' (lost_to e f past (commit_text (terms.first + lost)) j.text body put got answer (inl is) (all_lost lost past p)) on' (λ winner clear on''. k body (f ∷ e ∷ past) rest' (loses lost past e f body winner put got answer (inl is) clear small p) on'')))
       where
-        back : (e f : JournalEntry) (body : List ℕ) (rest : Entries) → e.call ≡ PutNew (commit_text (terms.first + lost)) j.text → f.call ≡ Get (commit_text (terms.first + lost)) → f.answer ≡ Body body
+        back : (e f : JournalEntry) (body : List ℕ) (rest : Entries) → e.call ≡ PutNew (commit_text (terms.first + lost)) j.text → e.answer ≡ Fault → f.call ≡ Get (commit_text (terms.first + lost)) → f.answer ≡ Body body
             → (b : Bool) → bytes_eq body j.text ≡ b → MatchBool b (lands reply j l rest) (Judged Bodies Judges terms (open_end reply) (fails reply) (lands reply) (terms.first + lost) j body (again body) rest)
             → Lawful reply (f ∷ e ∷ past) rest
-        back e f body rest put got answer true same on =
-            replied (landed l) reply (f ∷ e ∷ past) rest (finds lost past e f l put got (answer ∙ ap (λ (b : List ℕ). Body b) ((bytes_eq-Decides body j.text).0 same)) version attempts small p) on
-        back e f body rest put got answer false apart on =
+        back e f body rest put is got answer true same on =
+            replied (landed l) reply (f ∷ e ∷ past) rest (finds lost past e f l put is got (answer ∙ ap (λ (b : List ℕ). Body b) ((bytes_eq-Decides body j.text).0 same)) version attempts small p) on
+        back e f body rest put is got answer false apart on =
             judged reply (terms.first + lost) body (again body) (f ∷ e ∷ past) rest (lost_to e f past (commit_text (terms.first + lost)) j.text body put got answer (inr (differ apart)) (all_lost lost past p)) on (λ winner clear on'. k body (f ∷ e ∷ past) rest (loses lost past e f body winner put got answer (inr (differ apart)) clear small p) on')
           where
             differ : bytes_eq body j.text ≡ false → body ≡ j.text → ⊥

@@ -4,7 +4,7 @@ use Rattle.std.specs.Prelude.{Option, Some, if◌then◌else◌}
 use Rattle.edge_api.specs.declared.call.Tag.{Tag}
 use Rattle.edge_api.specs.declared.call.Answer.{Answer}
 use Rattle.edge_api.specs.declared.call.Answer.TheVariants.{Fault}
-use Rattle.edge_api.specs.Journal.{Objects, entries_of}
+use Rattle.edge_api.specs.Journal.{Objects, Moment, IsLegal, entries_of}
 use Rattle.op_types.specs.declared.statement.Statement.{Statement}
 use Rattle.op_types.specs.declared.refusal.Refusal.{Refusal}
 use Rattle.op_types.specs.declared.reply.Reply.{Reply}
@@ -12,11 +12,13 @@ use Rattle.op_types.specs.declared.reply.Reply.TheVariants.{Refused}
 use Rattle.table_rules.specs.Names.{commit_text}
 use Rattle.table_rules.specs.Told.{IsTag}
 use Rattle.call_phases.specs.Phases.{Entries}
-use Rattle.actor_core.specs.Entries.{same_tag, own}
-use Rattle.table_laws.specs.Conflicts.{Level, Serializable}
+use Rattle.edge_api.specs.Journal.{same_tag}
+use Rattle.actor_core.specs.Entries.{own}
+use Rattle.table_laws.specs.Levels.{Level, Serializable}
 use Rattle.table_laws.specs.History.{Put, history, put_under, body_of}
-use Rattle.table_laws.specs.Runs.{SessionKnows}
-use Rattle.table_laws.specs.Refused.{IsUnknown, FaultedIn, EachRefusalCommitsNothing}
+use Rattle.txn_machine.specs.Answered.{Kept}
+use Rattle.table_laws.specs.Runs.{SessionKnows, IsRun}
+use Rattle.table_laws.specs.Refused.{IsUnknown, FaultedIn, RefusedCommitNothing}
 use Rattle.table_laws.proofs.Lawful.{PutIn, ClaimsNothing}
 use Rattle.table_laws.proofs.Journals.{Stands, backwards, own_got, some_same}
 use Rattle.table_laws.proofs.Serial.{run_end, claims}
@@ -38,7 +40,7 @@ faulted (e ∷ es) n b (inl now) = inl now
 faulted (e ∷ es) n b (inr later) = inr (faulted es n b later)
 
 -- a put that was answered by a fault, in the order of the journal
-put_faulted : (t : Tag) (past journal : Entries) (n b : List ℕ) → past ≡ backwards [] journal → PutIn (own t past) n b Fault → FaultedIn (own t journal) n b
+pub put_faulted : (t : Tag) (past journal : Entries) (n b : List ℕ) → past ≡ backwards [] journal → PutIn (own t past) n b Fault → FaultedIn (own t journal) n b
 put_faulted t past journal n b is h = elim (put_back t [] journal n b Fault (subst (λ (l : Entries). PutIn (own t l) n b Fault) is h)) [ inl none ↦ absurd none | inr put ↦ faulted (own t journal) n b put ]
 
 module _ (level : Level) (K : Tag → List ℕ → List ℕ → Type 0) (script : Tag → Option Statement) (replies : Tag → Option Reply) (tags : (tag : Tag) (statement : Statement) → script tag ≡ Some statement → IsTag tag)
@@ -59,8 +61,9 @@ module _ (level : Level) (K : Tag → List ℕ → List ℕ → Type 0) (script 
         ]
       ]
 
-pub each_refusal_commits_nothing : EachRefusalCommitsNothing
-each_refusal_commits_nothing limit script kepts replies moments legal run t st r version p is_st is_reply is same =
+pub refused_at : (limit : ℕ) (script : Tag → Option Statement) (kepts : Tag → Option Kept) (replies : Tag → Option Reply) (moments : List Moment) → IsLegal [] 0 moments → IsRun limit script kepts replies (entries_of moments)
+    → RefusedCommitNothing script replies moments
+refused_at limit script kepts replies moments legal run t st r version p is_st is_reply is same =
     let e = run_end Serializable limit script kepts replies moments legal run in
     let claim = claims Serializable limit script kepts replies moments legal run e t st (Refused r) is_st is_reply in
     let d = in_doubt Serializable (SessionKnows (entries_of moments)) script replies run.tags e.past e.os (history [] moments) e.stands t r version p claim is same in

@@ -2,10 +2,13 @@
 use Rattle.std.proofs.Common.{◌≡◌, ◌⊎◌, inl, inr, ℕ, zero, suc, ◌+◌, ◌-◌, ◌≤◌, ◌<◌, ◌^◌, Bool, true, false, List, [], ◌∷◌, ◌++◌, length, refl, sym, ◌∙◌, ap, subst, arith}
 use Rattle.std.specs.Prelude.{Option, Some, None, IsSome, if◌then◌else◌, option_map, option_and_then}
 use Rattle.std.specs.Str.{bytes_eq}
+use Rattle.std.specs.Ordering.{is_lt, nat_cmp}
+use Rattle.std.specs.Cmp.Lexicographic.{slice_cmp}
 use Rattle.std.proofs.lemmas.Slice.Eq.{bytes_eq-Decides}
 use Rattle.edge_api.specs.declared.call.Tag.{Tag}
 use Rattle.edge_api.specs.Journal.{Objects, Moment, IsLegal, entries_of}
 use Rattle.row_base.specs.declared.row.ScannedFile.{ScannedFile}
+use Rattle.row_base.specs.Sorting.{Sorts}
 use Rattle.row_base.specs.Bags.{count_of}
 use Rattle.row_base.proofs.Bags.{count_of-append}
 use Rattle.op_types.specs.declared.statement.Statement.{Statement}
@@ -16,20 +19,21 @@ use Rattle.op_types.specs.declared.reply.Reply.TheVariants.{Committed as Committ
 use Rattle.table_rules.specs.Names.{commit_text, data_text}
 use Rattle.table_rules.specs.Told.{IsTag}
 use Rattle.line_texts.specs.Texts.{columns_of_text}
-use Rattle.snapshot_replay.specs.Table.{Add, Action, Removes, Adds, Commit, Snapshot, without_path, reconciled, table_commit, paths_of, snapshot_at}
+use Rattle.line_texts.proofs.Laws.{columns_read_back}
+use Rattle.snapshot_replay.specs.Table.{Add, Action, Removes, Adds, Commit, Snapshot, without_path, placed, reconciled, table_commit, paths_of, snapshot_at}
 use Rattle.call_phases.specs.Phases.{Entries}
-use Rattle.txn_machine.specs.Texts.{read_commit}
-use Rattle.txn_machine.specs.Answered.{Kept, Sorts, rows_of_files}
+use Rattle.txn_machine.specs.Texts.{read_commit, read_file}
+use Rattle.txn_machine.specs.Answered.{Kept, names_of, rows_of_files}
 use Rattle.txn_machine.proofs.OpenEnds.{length-paths_of}
 use Rattle.actor_core.specs.Entries.{own}
 use Rattle.table_laws.specs.Rows.{Row}
 use Rattle.table_laws.specs.Operations.{Operation, operation_of, inserted, got_files, removed_files}
 use Rattle.table_laws.specs.Files.{live_by, rows_in, rows_under, lines_of}
-use Rattle.table_laws.specs.Effects.{may_match, new_rows, new_file, effect_of}
-use Rattle.table_laws.specs.Conflicts.{Level, Serializable}
+use Rattle.table_laws.proofs.CommitEffects.{may_match, new_rows, new_file, effect_of}
+use Rattle.table_laws.specs.Levels.{Level, Serializable}
 use Rattle.table_laws.specs.History.{Put, put_under, body_of, or_nothing, commit_at, rows_of, history, IsCommitted}
-use Rattle.table_laws.specs.Runs.{listed_by, GotIn, StoredIn, SessionKnows, IsAnsweredPart, IsRun}
-use Rattle.table_laws.specs.Laws.{statement_of, operation_by, inserted_by, appended, Step, versions_from, IsWonBefore, Lands, HasCommitted, HasRead, EachVersionIsSerial, FirstVersionIsEmpty, EachStatementCommitsOnce, EachCommitLands, EachReplyCommitted, EachReplyRead}
+use Rattle.table_laws.specs.Runs.{listed_by, GotIn, StoredIn, SessionKnows, LoadedTo, IsAnsweredPart, IsRun}
+use Rattle.table_laws.specs.Laws.{statement_of, operation_by, inserted_by, appended, Step, versions_from, IsWonBefore, Lands, HasCommitted, HasRead, MakesTable, ReadsAt, FileReads, AllFilesRead, VersionsAreSerial, FirstIsEmpty, FirstMakesTable, CommitsOnce, CommitsRead, FilesRead, CommitsLand, RepliesCommitted, RepliesRead}
 use Rattle.table_laws.proofs.Files.{times, is_one, times-placed, times-without_other, times-without_same}
 use Rattle.table_laws.proofs.Winners.{Landed, serial}
 use Rattle.table_laws.proofs.Lawful.{Known, AllGot, AllScanned, Knows, ClaimsCommit, ClaimsRows, ClaimOf, judge_of}
@@ -105,6 +109,32 @@ scanned_long G [] [] h = refl
 scanned_long G [] (f ∷ fs) h = absurd h
 scanned_long G (p ∷ paths) [] h = absurd h
 scanned_long G (p ∷ paths) (f ∷ fs) h = ap (λ (n : ℕ). suc n) (scanned_long G paths fs h.1)
+
+-- the commit of version 0 was read by whoever loaded a version
+first_loaded : (G : List ℕ → List ℕ → Type 0) (n : ℕ) (s : Snapshot) → LoadedTo G (suc n) s → (text : List ℕ) × G (commit_text 0) text × (t : Commit) × (read_commit 0 text ≡ Some t)
+first_loaded G zero s h = (h.1, h.4, h.2, h.5)
+first_loaded G (suc n) s h = first_loaded G n h.0 h.3
+
+without_read : (ps : List Put) (path : List ℕ) (fs : List Add) → AllFilesRead ps fs → AllFilesRead ps (without_path fs path)
+without_read ps path [] h = tt
+without_read ps path (a ∷ fs) h = by (bytes_eq a.path path) (without_read ps path fs h.1)
+  where
+    by : (b : Bool) → AllFilesRead ps (without_path fs path) → AllFilesRead ps (if b then without_path fs path else a ∷ without_path fs path)
+    by true rest = rest
+    by false rest = (h.0, rest)
+
+placed_read : (ps : List Put) (a : Add) (fs : List Add) → FileReads ps a.path → AllFilesRead ps fs → AllFilesRead ps (placed a fs)
+placed_read ps a [] one h = (one, tt)
+placed_read ps a (b ∷ fs) one h = by (is_lt (slice_cmp nat_cmp b.path a.path)) (placed_read ps a fs one h.1)
+  where
+    by : (c : Bool) → AllFilesRead ps (placed a fs) → AllFilesRead ps (if c then b ∷ placed a fs else a ∷ b ∷ fs)
+    by true rest = (h.0, rest)
+    by false rest = (one, h)
+
+-- files that read, after a commit that adds one that reads
+lines_read : (ps : List Put) (removed : List (List ℕ)) (a : Add) (fs : List Add) → AllFilesRead ps fs → FileReads ps a.path → AllFilesRead ps (reconciled fs (lines_of removed (a ∷ [])))
+lines_read ps [] a fs h one = placed_read ps a (without_path fs a.path) one (without_read ps a.path fs h)
+lines_read ps (r ∷ removed) a fs h one = lines_read ps removed a (without_path fs r) (without_read ps r fs h) one
 
 module _ (level : Level) (K : Tag → List ℕ → List ℕ → Type 0) (script : Tag → Option Statement) (replies : Tag → Option Reply) (tags : (tag : Tag) (statement : Statement) → script tag ≡ Some statement → IsTag tag)
     (past : Entries) (os : Objects) (ps : List Put) (s : Stands level K script replies tags past os ps) (known : (t : Tag) (n b : List ℕ) → K t n b → InPut ps n b) where
@@ -218,6 +248,45 @@ module _ (level : Level) (K : Tag → List ℕ → List ℕ → Type 0) (script 
     clear = cleared v p small is;
   }
 
+  -- what a statement makes that makes a table
+  pub makes_table : (p : Put) → put_under ps (commit_text 0) ≡ Some p → MakesTable script p
+  makes_table p is =
+      let made = s.table p is in
+      let names = names_of (made.0).columns in
+      record {
+        spec = made.0;
+        is_statement = made.1;
+        text = made.2;
+        reads = λ words. ap (λ (text : List ℕ). option_map table_commit (columns_of_text text)) made.2 ∙ ap (option_map table_commit) (columns_read_back names words);
+      }
+
+  -- the commits up to a version above 0 read
+  pub commits_read : (v k : ℕ) → suc v < 2 ^ 64 → IsCommitted ps (suc v) → k ≤ suc v → ReadsAt ps k
+  commits_read v zero small is le =
+      let first = some_put (put_under ps (commit_text 0)) (below (suc v) small is 0 le) in
+      let two = some_put (put_under ps (commit_text (suc v))) is in
+      let c = s.commits v two.0 small two.1 in
+      let loaded = first_loaded (InPut ps) c.read c.s (knows v two.0 c).loaded in
+      let same : loaded.0 ≡ (first.0).body = some_same loaded.0 (first.0).body (sym loaded.1 ∙ ap body_of first.1) in
+      (first.0, first.1, loaded.2, ap (read_commit 0) (sym same) ∙ loaded.3)
+  commits_read v (suc k) small is le =
+      let two = some_put (put_under ps (commit_text (suc k))) (below (suc v) small is (suc k) le) in
+      let c = s.commits k two.0 (omega (arith, small, le)) two.1 in
+      (two.0, two.1, effect_of (two.0).tag c.start c.op c.view (c.s).files, c.says)
+
+  -- the live files of a version read
+  pub files_read : (v : ℕ) → v < 2 ^ 64 → IsCommitted ps v → AllFilesRead ps (live v)
+  files_read zero small is = subst (λ (ls : List Action). AllFilesRead ps (reconciled [] ls)) (sym (empty_first ps)) tt
+  files_read (suc v) small is =
+      let two = some_put (put_under ps (commit_text (suc v))) is in
+      let c = s.commits v two.0 small two.1 in
+      let stored = (knows v two.0 c).stored in
+      let file = put_of_body (put_under ps (data_text (two.0).tag c.start 0)) stored.0 stored.1 in
+      let same : stored.0 ≡ (file.0).body = some_same stored.0 (file.0).body (sym stored.1 ∙ ap body_of file.1) in
+      let reads : FileReads ps (data_text (two.0).tag c.start 0) = (file.0, file.1, new_rows c.op c.view (c.s).files, ap read_file (sym same) ∙ stored.2) in
+      subst (λ (t : Commit). AllFilesRead ps (reconciled (live v) t.lines)) (sym (says v two.0 small two.1))
+      (lines_read ps (paths_of (removed_files (rows_of ps) may_match c.op (live c.read))) (new_file (two.0).tag c.start) (live v) (files_read v (omega (arith, small)) (one_below v small is)) reads)
+
   commit_put : (n : ℕ) → n < 2 ^ 64 → IsCommitted ps n → (k : ℕ) → k < n → (p : Put) × (put_under ps (commit_text (suc k)) ≡ Some p)
   commit_put n small is k lt = some_put (put_under ps (commit_text (suc k))) (below n small is (suc k) (omega arith))
 
@@ -247,6 +316,8 @@ module _ (level : Level) (K : Tag → List ℕ → List ℕ → Type 0) (script 
           is_statement = k.is_statement;
           op = k.op;
           is_op = k.is_op;
+          commit = effect_of (two.0).tag k.start k.op k.view (k.s).files;
+          reads = k.says;
           read = k.read;
           is_read = sym (given_is listed_by two.0.tag past journal is_past) ∙ k.listed;
           serial = serial may_match (commit_at ps) (rows_of ps) (suc v) (facts (suc v) small is) (empty_first ps) (appended script ps)
@@ -330,10 +401,13 @@ module _ (level : Level) (K : Tag → List ℕ → List ℕ → Type 0) (script 
         let scanned = scanned_more (Known (K t) (own t past)) (InPut ps) more (paths_of (c.s).files) c.got c.scanned in
         let base : (c.s).files ≡ live version = ap (λ (x : Snapshot). x.files) (loaded_is ps version c.s loaded) in
         let rows : rows_of_files c.got ≡ rows_in (rows_of ps) (live version) = scanned_rows ps (paths_of (c.s).files) c.got scanned ∙ ap (λ (fs : List Add). rows_in (rows_of ps) fs) base in
+        let q = put_of_body (put_under ps (commit_text version)) loaded.1 loaded.4 in
+        let same : (q.0).body ≡ loaded.1 = some_same (q.0).body loaded.1 (sym (ap body_of q.1) ∙ loaded.4) in
         let long : length c.got ≡ length (live version) = scanned_long (InPut ps) (paths_of (c.s).files) c.got scanned ∙ length-paths_of (c.s).files ∙ ap (λ (fs : List Add). length fs) base in
         record {
           is_read = sym (given_is listed_by t past journal is_past) ∙ c.listed;
           committed = some_of_body (put_under ps (commit_text version)) loaded.1 loaded.4;
+          reads = (q.0, q.1, loaded.2, ap (read_commit version) same ∙ loaded.5);
           rows = subst (λ (l : List Row). Sorts l given) rows c.sorts;
           files_read = c.files_read ∙ long;
           files_live = c.files_live ∙ ap (λ (fs : List Add). length fs) base;
@@ -367,7 +441,7 @@ module _ (level : Level) (limit : ℕ) (script : Tag → Option Statement) (kept
   abbrev K : Tag → List ℕ → List ℕ → Type 0
   K = SessionKnows journal
 
-  keeps_answered : Keeps level K script replies run.tags [] journal
+  pub keeps_answered : Keeps level K script replies run.tags [] journal
   keeps_answered t = part (script t) refl (run.answered t)
     where
       part : (s : Option Statement) → script t ≡ s → IsAnsweredPart limit t (kepts t) s (own t journal) (replies t) → KeepsPart level K script replies run.tags t s (replies t) [] (own t journal)
@@ -394,32 +468,48 @@ module _ (level : Level) (limit : ℕ) (script : Tag → Option Statement) (kept
       subst (λ (r : Option Reply). KeepsPart level K script replies run.tags t (Some st) r (own t e.past) []) is_reply
       (subst (λ (o : Option Statement). KeepsPart level K script replies run.tags t o (replies t) (own t e.past) []) is_st (e.keeps t))
 
-pub each_version_is_serial : EachVersionIsSerial
-each_version_is_serial level limit script kepts replies moments legal run v small is =
-    let e = run_end level limit script kepts replies moments legal run in
-    step level (SessionKnows (entries_of moments)) script replies run.tags e.past e.os (history [] moments) e.stands (known_at level limit script kepts replies moments legal run e) (entries_of moments) e.is v small is
+module _ (limit : ℕ) (script : Tag → Option Statement) (kepts : Tag → Option Kept) (replies : Tag → Option Reply) (moments : List Moment) (legal : IsLegal [] 0 moments) (run : IsRun limit script kepts replies (entries_of moments)) where
+  pub serial_at : (level : Level) → VersionsAreSerial level script moments
+  serial_at level v small is =
+      let e = run_end level limit script kepts replies moments legal run in
+      step level (SessionKnows (entries_of moments)) script replies run.tags e.past e.os (history [] moments) e.stands (known_at level limit script kepts replies moments legal run e) (entries_of moments) e.is v small is
 
-pub each_statement_commits_once : EachStatementCommitsOnce
-each_statement_commits_once limit script kepts replies moments legal run v w p q small also is there same =
-    let e = run_end Serializable limit script kepts replies moments legal run in
-    once Serializable (SessionKnows (entries_of moments)) script replies run.tags e.past e.os (history [] moments) e.stands (known_at Serializable limit script kepts replies moments legal run e) v w p q small also is there same
+  pub once_at : CommitsOnce moments
+  once_at v w p q small also is there same =
+      let e = run_end Serializable limit script kepts replies moments legal run in
+      once Serializable (SessionKnows (entries_of moments)) script replies run.tags e.past e.os (history [] moments) e.stands (known_at Serializable limit script kepts replies moments legal run e) v w p q small also is there same
 
-pub first_version_is_empty : FirstVersionIsEmpty
-first_version_is_empty moments = ap (λ (ls : List Action). rows_in (rows_of (history [] moments)) (reconciled [] ls)) (empty_first (history [] moments))
+  pub first_at : FirstMakesTable script moments
+  first_at p is =
+      let e = run_end Serializable limit script kepts replies moments legal run in
+      makes_table Serializable (SessionKnows (entries_of moments)) script replies run.tags e.past e.os (history [] moments) e.stands (known_at Serializable limit script kepts replies moments legal run e) p is
 
-pub each_commit_lands : EachCommitLands
-each_commit_lands limit script kepts replies moments legal run v p small is =
-    let e = run_end Serializable limit script kepts replies moments legal run in
-    lands Serializable (SessionKnows (entries_of moments)) script replies run.tags e.past e.os (history [] moments) e.stands (known_at Serializable limit script kepts replies moments legal run e) (entries_of moments) e.is v p small is
+  pub commits_at : CommitsRead moments
+  commits_at v k small is le =
+      let e = run_end Serializable limit script kepts replies moments legal run in
+      commits_read Serializable (SessionKnows (entries_of moments)) script replies run.tags e.past e.os (history [] moments) e.stands (known_at Serializable limit script kepts replies moments legal run e) v k small is le
 
-pub each_reply_committed : EachReplyCommitted
-each_reply_committed limit script kepts replies moments legal run t st version read attempts checkpoint is_st is_reply =
-    let e = run_end Serializable limit script kepts replies moments legal run in
-    has_committed Serializable (SessionKnows (entries_of moments)) script replies run.tags e.past e.os (history [] moments) e.stands (known_at Serializable limit script kepts replies moments legal run e) (entries_of moments) e.is t st is_st
-    version read attempts (claims Serializable limit script kepts replies moments legal run e t st (CommittedReply version read attempts checkpoint) is_st is_reply)
+  pub files_at : FilesRead moments
+  files_at v small is =
+      let e = run_end Serializable limit script kepts replies moments legal run in
+      files_read Serializable (SessionKnows (entries_of moments)) script replies run.tags e.past e.os (history [] moments) e.stands (known_at Serializable limit script kepts replies moments legal run e) v small is
 
-pub each_reply_read : EachReplyRead
-each_reply_read limit script kepts replies moments legal run t st version given read live_files is_st is_reply =
-    let e = run_end Serializable limit script kepts replies moments legal run in
-    has_read Serializable (SessionKnows (entries_of moments)) script replies run.tags e.past e.os (history [] moments) e.stands (known_at Serializable limit script kepts replies moments legal run e) (entries_of moments) e.is t
-    version given read live_files (claims Serializable limit script kepts replies moments legal run e t st (Rows version given read live_files) is_st is_reply)
+  pub lands_at : CommitsLand moments
+  lands_at v p small is =
+      let e = run_end Serializable limit script kepts replies moments legal run in
+      lands Serializable (SessionKnows (entries_of moments)) script replies run.tags e.past e.os (history [] moments) e.stands (known_at Serializable limit script kepts replies moments legal run e) (entries_of moments) e.is v p small is
+
+  pub committed_at : RepliesCommitted script replies moments
+  committed_at t st version read attempts checkpoint is_st is_reply =
+      let e = run_end Serializable limit script kepts replies moments legal run in
+      has_committed Serializable (SessionKnows (entries_of moments)) script replies run.tags e.past e.os (history [] moments) e.stands (known_at Serializable limit script kepts replies moments legal run e) (entries_of moments) e.is t st
+      is_st version read attempts (claims Serializable limit script kepts replies moments legal run e t st (CommittedReply version read attempts checkpoint) is_st is_reply)
+
+  pub read_at : RepliesRead script replies moments
+  read_at t st version given read live_files is_st is_reply =
+      let e = run_end Serializable limit script kepts replies moments legal run in
+      has_read Serializable (SessionKnows (entries_of moments)) script replies run.tags e.past e.os (history [] moments) e.stands (known_at Serializable limit script kepts replies moments legal run e) (entries_of moments) e.is t
+      version given read live_files (claims Serializable limit script kepts replies moments legal run e t st (Rows version given read live_files) is_st is_reply)
+
+pub first_is_empty : (moments : List Moment) → FirstIsEmpty moments
+first_is_empty moments = ap (λ (ls : List Action). rows_in (rows_of (history [] moments)) (reconciled [] ls)) (empty_first (history [] moments))

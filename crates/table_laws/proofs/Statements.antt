@@ -26,6 +26,8 @@ use Rattle.snapshot_replay.specs.Table.{Commit, Snapshot, no_table, paths_of}
 use Rattle.call_phases.specs.Phases.{Entries}
 use Rattle.committer.specs.declared.judge.Verdict.TheVariants as verdict
 use Rattle.txn_machine.specs.declared.judge.CommitJudge.{CommitJudge}
+use Rattle.txn_machine.specs.declared.statement.TableStatement.{TableStatement}
+use Rattle.txn_machine.specs.declared.statement.TableStatement.TheVariants as over
 use Rattle.txn_machine.specs.Judging.{verdict_of}
 use Rattle.txn_machine.specs.Phases.{IsCutShort, Ends, Cut, commit_of, newest, missing, AtLoad, AtFiles}
 use Rattle.txn_machine.specs.Texts.{read_commit, read_file}
@@ -33,8 +35,8 @@ use Rattle.txn_machine.specs.Answered.{Kept, retention, version_limit, IsSelecte
 use Rattle.table_laws.specs.Rows.{Row}
 use Rattle.table_laws.specs.Operations.{Operation, operation_of}
 use Rattle.table_laws.specs.Operations as operations
-use Rattle.table_laws.specs.Effects.{effect_of}
-use Rattle.table_laws.specs.Conflicts.{Level}
+use Rattle.table_laws.proofs.CommitEffects.{effect_of}
+use Rattle.table_laws.specs.Levels.{Level}
 use Rattle.table_laws.specs.Runs.{or_first, listed_by, told_by, version_put, with_version, versions_put, GotIn, StoredIn, LoadedTo, KeptPart}
 use Rattle.table_laws.proofs.Lawful.{Known, NoPut, AllLost, first_past, judge_of, AllScanned, Cleared, Knows, versions_down, AllWon, ClaimsRows, Claim, IsFile, IsTable, IsCommit, AllLawful}
 use Rattle.table_laws.proofs.Known.{loaded_more, knows_more, scanned_more, scanned_push}
@@ -180,7 +182,7 @@ module _ (level : Level) (K : List ℕ → List ℕ → Type 0) (tag : Tag) (op 
           says = said p.before l.version (let n = p.next in omega arith);
           there = inl (inl (put ∙ ap (λ (v : ℕ). PutNew (commit_text v) j.text) (sym version), answer));
         })
-        (λ lost past e f l put got answer version attempts small p. record {
+        (λ lost past e f l put fault got answer version attempts small p. record {
           sum = omega arith;
           above = omega arith;
           small = omega arith;
@@ -251,7 +253,7 @@ module _ (level : Level) (K : List ℕ → List ℕ → Type 0) (tag : Tag) (lim
       claim : (got : List ScannedFile) (past : Entries) → AllScanned (Known K past) (paths_of s.files) got → LoadedTo (Known K past) (suc read) s → Fresh start read past
           → (o : Option Reply) → IsReplied (IsSelected read (length s.files) got) o → Claim K tag Select o past
       claim got past scanned l f None h = tt
-      claim got past scanned l f (Some Created) h = tt
+      claim got past scanned l f (Some Created) h = absurd h
       claim got past scanned l f (Some (Committed v r a c)) h = absurd h
       claim got past scanned l f (Some (Rows v rows fr fl)) h =
           subst (λ (n : ℕ). ClaimsRows K past n rows fr fl) (sym h.0) (record { listed = f.listed; s = s; loaded = l; got = got; scanned = scanned; sorts = h.1; files_read = h.2; files_live = h.3 })
@@ -263,11 +265,15 @@ module _ (level : Level) (K : List ℕ → List ℕ → Type 0) (tag : Tag) (lim
       by got past rest scanned l f none (inl replied) = subst (λ (es : Entries). AllLawful level K tag Select reply past es) (sym none) (claim got past scanned l f reply replied)
       by got past rest scanned l f none (inr short) = was_cut level K tag Select reply past rest (none_lost past f.none) (none, short)
 
-  loaded_then : (statement : Statement) → ((rows : List Row) → statement ≡ Insert rows → rows_of_text (text_of_rows rows) ≡ Some rows) → (start read : ℕ) (reply : Option Reply) (s : Snapshot) (past es : Entries) → read < version_limit → LoadedTo (Known K past) (suc read) s → Fresh start read past
-      → AfterLoad tag limit statement start read reply s es → AllLawful level K tag statement reply past es
-  loaded_then (Table spec) faithful start read reply s past es small loaded fresh h = ended_lost level K tag (Table spec) refusal.TableThere reply past es (none_lost past fresh.none) h
-  loaded_then (Insert rows) faithful start read reply s past es small loaded fresh h = appends rows (faithful rows refl) start read reply s past es small loaded fresh h
-  loaded_then Select faithful start read reply s past es small loaded fresh h = selects start read reply s past es loaded fresh h
+  -- the statement whose work over a loaded table it is
+  abbrev whole : TableStatement → Statement
+  whole (over.Insert rows) = Insert rows
+  whole over.Select = Select
+
+  loaded_then : (statement : TableStatement) → ((rows : List Row) → whole statement ≡ Insert rows → rows_of_text (text_of_rows rows) ≡ Some rows) → (start read : ℕ) (reply : Option Reply) (s : Snapshot) (past es : Entries) → read < version_limit → LoadedTo (Known K past) (suc read) s → Fresh start read past
+      → AfterLoad tag limit statement start read reply s es → AllLawful level K tag (whole statement) reply past es
+  loaded_then (over.Insert rows) faithful start read reply s past es small loaded fresh h = appends rows (faithful rows refl) start read reply s past es small loaded fresh h
+  loaded_then over.Select faithful start read reply s past es small loaded fresh h = selects start read reply s past es loaded fresh h
 
   -- the load begins with what is kept, or with no table
   base_known : (kept : Option Kept) (v : ℕ) → KeptPart K kept → (LoadedTo K (load_from kept v) (load_base kept v)) × (load_count kept v + load_from kept v ≡ suc v)
@@ -278,26 +284,26 @@ module _ (level : Level) (K : List ℕ → List ℕ → Type 0) (tag : Tag) (lim
       by true e = (refl, omega arith)
       by false e = (held, let le : k.versions ≤ v + 1 = grind (arith, nat_tests) in omega arith)
 
-  loads : (kept : Option Kept) → KeptPart K kept → (statement : Statement) → ((rows : List Row) → statement ≡ Insert rows → rows_of_text (text_of_rows rows) ≡ Some rows)
+  loads : (kept : Option Kept) → KeptPart K kept → (statement : TableStatement) → ((rows : List Row) → whole statement ≡ Insert rows → rows_of_text (text_of_rows rows) ≡ Some rows)
       → (start : ℕ) (l : List Listed) (reply : Option Reply) (o : Option ℕ) (past es : Entries) → NoPut past → first_past told_by past ≡ Some start → ((v : ℕ) → o ≡ Some v → first_past listed_by past ≡ Some v)
-      → Loads tag limit kept statement start l reply o es → AllLawful level K tag statement reply past es
-  loads kept held statement faithful start l reply None past es none started seen h = ended_lost level K tag statement refusal.NoTable reply past es (none_lost past none) h
+      → Loads tag limit kept statement start l reply o es → AllLawful level K tag (whole statement) reply past es
+  loads kept held statement faithful start l reply None past es none started seen h = ended_lost level K tag (whole statement) refusal.NoTable reply past es (none_lost past none) h
   loads kept held statement faithful start l reply (Some v) past es none started seen h = by (nat_lt v version_limit) refl h
     where
       from : v < version_limit → (o : Option ℕ) → MatchOption o (AtLoad reply (load_count kept v) (load_from kept v) (load_base kept v) (AfterLoad tag limit statement start v reply) es) (λ k. Ends reply (refusal.LogGone (commit_text k)) es)
-          → AllLawful level K tag statement reply past es
-      from small (Some k) on = ended_lost level K tag statement _ reply past es (none_lost past none) on
+          → AllLawful level K tag (whole statement) reply past es
+      from small (Some k) on = ended_lost level K tag (whole statement) _ reply past es (none_lost past none) on
       from small None on =
           let base = base_known kept v held in
-          at_load level K tag statement start v reply (load_count kept v) (load_from kept v) (load_base kept v) _ past es
+          at_load level K tag (whole statement) start v reply (load_count kept v) (load_from kept v) (load_base kept v) _ past es
           (loaded_more K (Known K past) (λ n b k. inl k) (load_from kept v) (load_base kept v) base.0) (record { none = none; started = started; listed = seen v refl }) on
           (λ past' s rest loaded fresh on'.
           loaded_then statement faithful start v reply s past' rest small (subst (λ (m : ℕ). LoadedTo (Known K past') m s) base.1 loaded) fresh on')
 
       cut_or : v < version_limit → Cut reply es
           ⊎ MatchOption (missing l (load_from kept v) (load_count kept v)) (AtLoad reply (load_count kept v) (load_from kept v) (load_base kept v) (AfterLoad tag limit statement start v reply) es) (λ k. Ends reply (refusal.LogGone (commit_text k)) es)
-          → AllLawful level K tag statement reply past es
-      cut_or small (inl short) = was_cut level K tag statement reply past es (none_lost past none) short
+          → AllLawful level K tag (whole statement) reply past es
+      cut_or small (inl short) = was_cut level K tag (whole statement) reply past es (none_lost past none) short
       cut_or small (inr on) = from small (missing l (load_from kept v) (load_count kept v)) on
 
       by : (b : Bool) → nat_lt v version_limit ≡ b
@@ -305,29 +311,43 @@ module _ (level : Level) (K : List ℕ → List ℕ → Type 0) (tag : Tag) (lim
           (Cut reply es
           ⊎ MatchOption (missing l (load_from kept v) (load_count kept v)) (AtLoad reply (load_count kept v) (load_from kept v) (load_base kept v) (AfterLoad tag limit statement start v reply) es) (λ k. Ends reply (refusal.LogGone (commit_text k)) es))
           (Ends reply (refusal.Unsupported Versions) es)
-          → AllLawful level K tag statement reply past es
+          → AllLawful level K tag (whole statement) reply past es
       by true e on = cut_or (grind (arith, nat_tests)) on
-      by false e on = ended_lost level K tag statement _ reply past es (none_lost past none) on
+      by false e on = ended_lost level K tag (whole statement) _ reply past es (none_lost past none) on
 
   -- the making of a table
   makes : (spec : TableSpec) (start : ℕ) (reply : Option Reply) (o : Option ℕ) (past es : Entries) → NoPut past → Makes tag limit spec.columns start reply o es → AllLawful level K tag (Table spec) reply past es
   makes spec start reply (Some v) past es none h = ended_lost level K tag (Table spec) refusal.TableThere reply past es (none_lost past none) h
   makes spec start reply None past es none h =
-      at_attempt level K tag (Table spec) (record { text = text_of_columns (names_of spec.columns); makes_table = true }) (record { start = start; retention = retention; first = 0 }) (λ l. Created) (λ lost past. (lost ≡ 0) × AllLost past)
-      (λ lost past p. p.1)
-      (λ lost past e is p. (p.0, lost_other e past (no_commit_put e Now is now_no_put) p.1))
-      (λ lost past small p. let first = p.0 in let zero_is : 0 + lost ≡ 0 = omega arith in IsTable spec refl (ap commit_text zero_is) refl)
+      at_attempt level K tag (Table spec) (record { text = text_of_columns (names_of spec.columns); makes_table = true }) (record { start = start; retention = retention; first = 0 }) (λ l. Created) (λ lost past. (lost ≡ 0) × NoPut past)
+      (λ lost past p. none_lost past p.1)
+      (λ lost past e is p. (p.0, none_put e past Now is now_no_put p.1))
+      (λ lost past small p. IsTable spec refl (ap commit_text (first lost p.0)) refl p.1)
       (λ lost past e f body winner put got answer why clear small p. cc)
-      (λ lost past e l put answer version attempts small p. tt)
-      (λ lost past e f l put got answer version attempts small p. tt)
-      reply limit 0 [] past es (omega arith) (refl, none_lost past none) h
+      (λ lost past e l put answer version attempts small p.
+      let here = put_first e lost p.0 put in
+      record { spec = spec; is_table = refl; puts = put_once e past p.1 here; there = inl (inl (here, answer)) })
+      (λ lost past e f l put fault got answer version attempts small p.
+      let here = put_first e lost p.0 put in
+      let there : f.call ≡ Get (commit_text 0) = got ∙ ap (λ (n : ℕ). Get (commit_text n)) (first lost p.0) in
+      record { spec = spec; is_table = refl; puts = other_put f (e ∷ past) (Get (commit_text 0)) there refl ∙ put_once e past p.1 here; there = inr (inl (there, answer), inr (inl (here, fault))) })
+      reply limit 0 [] past es (omega arith) (refl, none) h
+    where
+      first : (lost : ℕ) → lost ≡ 0 → 0 + lost ≡ 0
+      first lost is = omega arith
+
+      put_first : (e : JournalEntry) (lost : ℕ) → lost ≡ 0 → e.call ≡ PutNew (commit_text (0 + lost)) (text_of_columns (names_of spec.columns)) → e.call ≡ PutNew (commit_text 0) (text_of_columns (names_of spec.columns))
+      put_first e lost is put = put ∙ ap (λ (n : ℕ). PutNew (commit_text n) (text_of_columns (names_of spec.columns))) (first lost is)
+
+      put_once : (e : JournalEntry) (past : Entries) → NoPut past → e.call ≡ PutNew (commit_text 0) (text_of_columns (names_of spec.columns)) → versions_put (e ∷ past) ≡ 0 ∷ []
+      put_once e past none put = one_put e past 0 (text_of_columns (names_of spec.columns)) (omega arith) put ∙ ap (λ (vs : List ℕ). 0 ∷ vs) (no_versions past none)
 
   after_listing : (kept : Option Kept) → KeptPart K kept → (statement : Statement) → ((rows : List Row) → statement ≡ Insert rows → rows_of_text (text_of_rows rows) ≡ Some rows)
       → (start : ℕ) (reply : Option Reply) (l : List Listed) (past es : Entries) → NoPut past → first_past told_by past ≡ Some start → ((v : ℕ) → newest l ≡ Some v → first_past listed_by past ≡ Some v)
       → AfterListing tag limit kept statement start reply l es → AllLawful level K tag statement reply past es
   after_listing kept held (Table spec) faithful start reply l past es none started seen h = makes spec start reply (newest l) past es none h
-  after_listing kept held (Insert rows) faithful start reply l past es none started seen h = loads kept held (Insert rows) faithful start l reply (newest l) past es none started seen h
-  after_listing kept held Select faithful start reply l past es none started seen h = loads kept held Select faithful start l reply (newest l) past es none started seen h
+  after_listing kept held (Insert rows) faithful start reply l past es none started seen h = loads kept held (over.Insert rows) faithful start l reply (newest l) past es none started seen h
+  after_listing kept held Select faithful start reply l past es none started seen h = loads kept held over.Select faithful start l reply (newest l) past es none started seen h
 
   -- an answered statement's entries are lawful
   pub answered_lawful : (kept : Option Kept) → KeptPart K kept → (statement : Statement) → ((rows : List Row) → statement ≡ Insert rows → rows_of_text (text_of_rows rows) ≡ Some rows)

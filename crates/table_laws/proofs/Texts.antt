@@ -10,7 +10,7 @@ use Rattle.snapshot_replay.specs.Table.{Add, table_commit, append_commit}
 use Rattle.txn_machine.specs.Texts.{read_commit}
 use Rattle.table_laws.specs.Rows.{Row}
 use Rattle.table_laws.specs.Operations.{Insert}
-use Rattle.table_laws.specs.Effects.{effect_of}
+use Rattle.table_laws.proofs.CommitEffects.{effect_of}
 use Rattle.table_laws.proofs.Paths.{data_is_path}
 
 -- the text of an append is read as the path of its file

@@ -3,9 +3,11 @@ use Rattle.std.proofs.Common.{◌≡◌, ℕ, zero, suc, ◌+◌, Bool, true, fa
 use Rattle.std.proofs.lemmas.List.{append-nil, append_assoc}
 use Rattle.std.specs.Prelude.{Option, Some, None, if◌then◌else◌}
 use Rattle.std.specs.Str.{bytes_eq}
+use Rattle.std.proofs.lemmas.Slice.Eq.{bytes_eq-Decides}
 use Rattle.edge_api.specs.declared.call.Tag.{Tag}
 use Rattle.call_phases.specs.Phases.{Entries}
-use Rattle.actor_core.specs.Entries.{same_tag, own}
+use Rattle.edge_api.specs.Journal.{same_tag}
+use Rattle.actor_core.specs.Entries.{own}
 use Rattle.table_laws.specs.History.{Put, put_under}
 use Rattle.table_laws.specs.Runs.{version_put, with_version, versions_put}
 use Rattle.table_laws.specs.Laws.{versions_from}
@@ -13,7 +15,7 @@ use Rattle.table_laws.proofs.Lawful.{versions_down}
 use Rattle.table_laws.proofs.Journals.{backwards}
 
 -- the first list from its end, before the second
-abbrev onto : List ℕ → List ℕ → List ℕ
+abbrev pub onto : List ℕ → List ℕ → List ℕ
 onto [] ys = ys
 onto (x ∷ xs) ys = onto xs (x ∷ ys)
 
@@ -47,11 +49,14 @@ versions_back t past (e ∷ es) = versions_back t (e ∷ past) es ∙ by (same_t
     by false = refl
 
 -- the newest first says what the oldest first says
-pub put_in_order : (t : Tag) (past es : Entries) (read n : ℕ) → past ≡ backwards [] es → versions_put (own t past) ≡ versions_down read n → versions_put (own t es) ≡ versions_from (read + 1) n
-put_in_order t past es read n is down =
-    let whole : onto (versions_put (own t es)) [] ≡ versions_down read n = sym (versions_back t [] es) ∙ ap (λ (l : Entries). versions_put (own t l)) (sym is) ∙ down in
+pub put_turned : (t : Tag) (past es : Entries) (vs : List ℕ) → past ≡ backwards [] es → versions_put (own t past) ≡ vs → versions_put (own t es) ≡ onto vs []
+put_turned t past es vs is put =
+    let whole : onto (versions_put (own t es)) [] ≡ vs = sym (versions_back t [] es) ∙ ap (λ (l : Entries). versions_put (own t l)) (sym is) ∙ put in
     let back : onto (onto (versions_put (own t es)) []) [] ≡ versions_put (own t es) = onto_twice (versions_put (own t es)) [] [] ∙ append-nil (versions_put (own t es)) in
-    sym back ∙ ap (λ (l : List ℕ). onto l []) whole ∙ down_up read n [] ∙ append-nil (versions_from (read + 1) n)
+    sym back ∙ ap (λ (l : List ℕ). onto l []) whole
+
+pub put_in_order : (t : Tag) (past es : Entries) (read n : ℕ) → past ≡ backwards [] es → versions_put (own t past) ≡ versions_down read n → versions_put (own t es) ≡ versions_from (read + 1) n
+put_in_order t past es read n is down = put_turned t past es (versions_down read n) is down ∙ down_up read n [] ∙ append-nil (versions_from (read + 1) n)
 
 -- a put among more is found
 pub put_under-front : (xs ys : List Put) (n : List ℕ) (q : Put) → put_under xs n ≡ Some q → put_under (xs ++ ys) n ≡ Some q
@@ -60,4 +65,13 @@ put_under-front (p ∷ xs) ys n q h = by (bytes_eq p.name n) h (put_under-front 
   where
     by : (b : Bool) → (if b then Some p else put_under xs n) ≡ Some q → (put_under xs n ≡ Some q → put_under (xs ++ ys) n ≡ Some q) → (if b then Some p else put_under (xs ++ ys) n) ≡ Some q
     by true h rest = h
+    by false h rest = rest h
+
+-- a put behind others is found under its name where no other is there
+pub put_under-behind : (xs ys : List Put) (p : Put) (n : List ℕ) → p.name ≡ n → put_under xs n ≡ None → put_under (xs ++ p ∷ ys) n ≡ Some p
+put_under-behind [] ys p n is none = ap (λ (b : Bool). if b then Some p else put_under ys n) ((bytes_eq-Decides p.name n).1 is)
+put_under-behind (x ∷ xs) ys p n is none = by (bytes_eq x.name n) none (put_under-behind xs ys p n is)
+  where
+    by : (b : Bool) → (if b then Some x else put_under xs n) ≡ None → (put_under xs n ≡ None → put_under (xs ++ p ∷ ys) n ≡ Some p) → (if b then Some x else put_under (xs ++ p ∷ ys) n) ≡ Some p
+    by true h rest = cc
     by false h rest = rest h

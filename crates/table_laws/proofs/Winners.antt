@@ -10,7 +10,8 @@ use Rattle.snapshot_replay.specs.Table.{Add, Action, Commit, without_path, place
 use Rattle.table_laws.specs.Rows.{Row}
 use Rattle.table_laws.specs.Operations.{Operation, Insert, Change, Compact, Respects, scope_of, result_of, operated, is_insert, is_change, is_compaction, inserted, any_row, got_files, removed_files}
 use Rattle.table_laws.specs.Files.{live_by, adds_lines, lines_of, rows_in, has_path}
-use Rattle.table_laws.specs.Conflicts.{Level, Serializable, WriteSerializable, FileClash, Append, DeleteRead, DeleteDelete, first_match, first_removed, no_removes, is_blind_append, counts_at, clash_if, where_true, first_clash}
+use Rattle.table_laws.specs.Levels.{Level, Serializable, WriteSerializable}
+use Rattle.table_laws.proofs.Clashes.{FileClash, Append, DeleteRead, DeleteDelete, first_match, first_removed, no_removes, is_blind_append, counts_at, clash_if, where_true, first_clash}
 use Rattle.table_laws.specs.Serial.{between, MissedFits, missed, SerialStep}
 use Rattle.table_laws.proofs.Files.{times, is_before, AllOnce, AllNew, commit_counts, rows_there, in-cons}
 use Rattle.table_laws.proofs.Live.{live_once, stays_once, picked_there, picked_once, NoneLeftOut, picked_rows, first_match-removes}

@@ -5,9 +5,9 @@ use Rattle.edge_api.specs.declared.call.Tag.{Tag}
 use Rattle.edge_api.specs.declared.call.Call.{Call}
 use Rattle.edge_api.specs.declared.call.Call.TheVariants.{Get, PutNew, Put as Replace, List as ListNames, Delete, Now, Wait}
 use Rattle.edge_api.specs.declared.call.Answer.{Answer}
-use Rattle.edge_api.specs.declared.call.Answer.TheVariants.{Fault, Body, Missing, Stored, Taken, Names, Gone, Time, Waited}
+use Rattle.edge_api.specs.declared.call.Answer.TheVariants.{Fault}
 use Rattle.edge_api.specs.declared.call.Object.{Object}
-use Rattle.edge_api.specs.Journal.{Objects, Moment, after, object_at}
+use Rattle.edge_api.specs.Journal.{Objects, Moment, after_moment, object_at}
 use Rattle.table_rules.specs.Names.{commit_text}
 use Rattle.snapshot_replay.specs.Table.{Commit}
 use Rattle.txn_machine.specs.Texts.{read_commit, read_file}
@@ -21,6 +21,7 @@ pub record Put : Type 0 where
   pub body : List ℕ
   pub at : ℕ
 
+-- a put, where its name is free
 abbrev pub put_if_free : Option Object → Put → List Put
 put_if_free None p = p ∷ []
 put_if_free (Some there) p = []
@@ -38,32 +39,28 @@ puts_of os tag clock (Wait time) = []
 -- a call that was answered by a fault took effect or didn't
 abbrev pub if_done : Answer → Bool → List Put → List Put
 if_done Fault took_effect ps = if took_effect then ps else []
-if_done (Body b) took_effect ps = ps
-if_done Missing took_effect ps = ps
-if_done Stored took_effect ps = ps
-if_done Taken took_effect ps = ps
-if_done (Names l) took_effect ps = ps
-if_done Gone took_effect ps = ps
-if_done (Time t) took_effect ps = ps
-if_done Waited took_effect ps = ps
+if_done answer took_effect ps = ps
 
+-- what a moment puts
 abbrev pub puts_at : Objects → Moment → List Put
 puts_at os m = if_done m.entry.answer m.took_effect (puts_of os m.entry.tag m.clock m.entry.call)
 
 -- the puts that took effect, in order
 abbrev pub history : Objects → List Moment → List Put
 history os [] = []
-history os (m ∷ ms) = puts_at os m ++ history (after os m) ms
+history os (m ∷ ms) = puts_at os m ++ history (after_moment os m) ms
 
 -- the put under a name. Its body counts though the object may be gone
 abbrev pub put_under : List Put → List ℕ → Option Put
 put_under [] name = None
 put_under (p ∷ ps) name = if bytes_eq p.name name then Some p else put_under ps name
 
+-- the body of a put
 abbrev pub body_of : Option Put → Option (List ℕ)
 body_of None = None
 body_of (Some p) = Some p.body
 
+-- no items, where there is no list
 abbrev pub or_none : {A : Type 0} → Option (List A) → List A
 or_none None = []
 or_none (Some xs) = xs
@@ -85,5 +82,6 @@ rows_of ps path = or_none (option_and_then read_file (body_of (put_under ps path
 abbrev pub rows_at : List Put → ℕ → List Row
 rows_at ps version = rows_in (rows_of ps) (live_by (commit_at ps) version)
 
+-- the version's commit was put
 abbrev pub IsCommitted : List Put → ℕ → Type 0
 IsCommitted ps version = IsSome (put_under ps (commit_text version))

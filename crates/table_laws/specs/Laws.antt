@@ -1,31 +1,44 @@
 -- What holds of each run of a script, whatever the schedule and whatever the store loses.
-use Rattle.std.specs.Prelude.{◌≡◌, ◌≢◌, ℕ, zero, suc, ◌+◌, ◌-◌, ◌<◌, ◌^◌, List, [], ◌∷◌, ◌++◌, length, Option, Some, None}
+use Rattle.std.specs.Prelude.{◌≡◌, ◌≢◌, ◌⊎◌, ℕ, zero, suc, ◌+◌, ◌-◌, ◌<◌, ◌≤◌, ◌^◌, true, false, List, [], ◌∷◌, ◌++◌, length, Option, Some, None}
+use Rattle.std.specs.List.{list_all}
 use Rattle.edge_api.specs.declared.call.Tag.{Tag}
-use Rattle.edge_api.specs.Journal.{Moment, IsLegal, entries_of}
+use Rattle.edge_api.specs.declared.call.Call.TheVariants.{PutNew}
+use Rattle.edge_api.specs.declared.call.Answer.TheVariants.{Fault, Stored, Taken}
+use Rattle.edge_api.specs.Journal.{Moment, entries_of}
+use Rattle.row_base.specs.Sorting.{Sorts}
 use Rattle.op_types.specs.declared.statement.Statement.{Statement}
+use Rattle.op_types.specs.declared.statement.Statement.TheVariants.{Table}
+use Rattle.op_types.specs.declared.statement.TableSpec.{TableSpec}
 use Rattle.op_types.specs.declared.reply.Reply.{Reply}
-use Rattle.op_types.specs.declared.reply.Reply.TheVariants.{Committed, Rows}
+use Rattle.op_types.specs.declared.reply.Reply.TheVariants.{Created, Committed, Rows}
 use Rattle.op_types.specs.declared.reply.CheckpointOutcome.{CheckpointOutcome}
 use Rattle.table_rules.specs.Names.{commit_text}
+use Rattle.line_texts.specs.Texts.{text_of_columns, is_word}
+use Rattle.snapshot_replay.specs.Table.{Add, Commit, table_commit}
 use Rattle.call_phases.specs.Phases.{Entries}
-use Rattle.txn_machine.specs.Answered.{Kept, Sorts}
+use Rattle.txn_machine.specs.Texts.{read_commit, read_file}
+use Rattle.txn_machine.specs.Answered.{names_of}
 use Rattle.actor_core.specs.Entries.{own}
 use Rattle.table_laws.specs.Rows.{Row}
 use Rattle.table_laws.specs.Operations.{Operation, operation_of, inserted}
-use Rattle.table_laws.specs.Conflicts.{Level}
+use Rattle.table_laws.specs.Levels.{Level}
 use Rattle.table_laws.specs.Serial.{SerialStep}
 use Rattle.table_laws.specs.Files.{live_by}
 use Rattle.table_laws.specs.History.{Put, history, put_under, commit_at, rows_at, IsCommitted}
-use Rattle.table_laws.specs.Runs.{version_read, versions_put, IsRun}
+use Rattle.table_laws.specs.Runs.{version_read, versions_put}
+use Rattle.table_laws.specs.Refused.{FaultedIn}
 
+-- the statement of a put
 abbrev pub statement_of : (Tag → Option Statement) → Option Put → Option Statement
 statement_of script None = None
 statement_of script (Some p) = script p.tag
 
+-- the rows that an operation inserts, where there is one
 abbrev pub inserted_by : Option Operation → List Row
 inserted_by None = []
 inserted_by (Some op) = inserted op
 
+-- the operation of a statement, where there is one
 abbrev pub operation_by : Option Statement → Option Operation
 operation_by None = None
 operation_by (Some statement) = operation_of statement
@@ -43,22 +56,58 @@ pub record Step (level : Level) (script : Tag → Option Statement) (journal : E
   pub is_statement : script by.tag ≡ Some statement
   pub op : Operation
   pub is_op : operation_of statement ≡ Some op
+  pub commit : Commit
+  pub reads : read_commit (suc v) by.body ≡ Some commit
   pub read : ℕ
   pub is_read : version_read (own by.tag journal) ≡ Some read
   pub serial : SerialStep level (rows_at ps) (appended script ps) op read v
 
 -- each version is the one before with one statement's operation done. Versions are so contiguous from 0
 abbrev pub VersionsAreSerial : Level → (Tag → Option Statement) → List Moment → Type 0
-VersionsAreSerial level script moments = (v : ℕ) → suc v < 2 ^ 64 → IsCommitted (history [] moments) (suc v) → Step level script (entries_of moments) (history [] moments) v
+VersionsAreSerial level script moments = (v : ℕ) → suc v < 2 ^ 64 → IsCommitted (history [] moments) (suc v)
+    → Step level script (entries_of moments) (history [] moments) v
 
 -- version 0 has no rows
 abbrev pub FirstIsEmpty : List Moment → Type 0
 FirstIsEmpty moments = rows_at (history [] moments) 0 ≡ []
 
+-- version 0 was put by a statement that makes a table, as the text of its columns. It reads where each column's name is a word
+pub record MakesTable (script : Tag → Option Statement) (p : Put) : Type 0 where
+  pub spec : TableSpec
+  pub is_statement : script p.tag ≡ Some (Table spec)
+  pub text : p.body ≡ text_of_columns (names_of spec.columns)
+  pub reads : list_all is_word (names_of spec.columns) ≡ true → read_commit 0 p.body ≡ Some (table_commit (names_of spec.columns))
+
+-- whoever put version 0 made a table
+abbrev pub FirstMakesTable : (Tag → Option Statement) → List Moment → Type 0
+FirstMakesTable script moments = (p : Put) → put_under (history [] moments) (commit_text 0) ≡ Some p → MakesTable script p
+
+-- a version's commit was put, and its text reads as a commit
+abbrev pub ReadsAt : List Put → ℕ → Type 0
+ReadsAt ps version = (p : Put) × (put_under ps (commit_text version) ≡ Some p) × (t : Commit) × (read_commit version p.body ≡ Some t)
+
+-- all commits up to a version above 0 read
+abbrev pub CommitsRead : List Moment → Type 0
+CommitsRead moments = (v k : ℕ) → suc v < 2 ^ 64 → IsCommitted (history [] moments) (suc v) → k ≤ suc v → ReadsAt (history [] moments) k
+
+-- a file was put under the path, and its body reads as rows
+abbrev pub FileReads : List Put → List ℕ → Type 0
+FileReads ps path = (p : Put) × (put_under ps path ≡ Some p) × (rows : List Row) × (read_file p.body ≡ Some rows)
+
+-- each of these files reads
+abbrev pub AllFilesRead : List Put → List Add → Type 0
+AllFilesRead ps [] = Unit {0}
+AllFilesRead ps (a ∷ fs) = FileReads ps a.path × AllFilesRead ps fs
+
+-- each live file of a version reads
+abbrev pub FilesRead : List Moment → Type 0
+FilesRead moments = (v : ℕ) → v < 2 ^ 64 → IsCommitted (history [] moments) v → AllFilesRead (history [] moments) (live_by (commit_at (history [] moments)) v)
+
 -- versions that one statement committed are one
 abbrev pub CommitsOnce : List Moment → Type 0
 CommitsOnce moments =
-    (v w : ℕ) (p q : Put) → v < 2 ^ 64 → w < 2 ^ 64 → put_under (history [] moments) (commit_text v) ≡ Some p → put_under (history [] moments) (commit_text w) ≡ Some q → p.tag ≡ q.tag → v ≡ w
+    (v w : ℕ) (p q : Put) → v < 2 ^ 64 → w < 2 ^ 64 → put_under (history [] moments) (commit_text v) ≡ Some p
+    → put_under (history [] moments) (commit_text w) ≡ Some q → p.tag ≡ q.tag → v ≡ w
 
 -- so many versions, from one on
 abbrev pub versions_from : ℕ → ℕ → List ℕ
@@ -85,7 +134,40 @@ pub record Lands (journal : Entries) (ps : List Put) (version : ℕ) (by : Put) 
 
 -- each commit above version 0 landed so
 abbrev pub CommitsLand : List Moment → Type 0
-CommitsLand moments = (v : ℕ) (by : Put) → suc v < 2 ^ 64 → put_under (history [] moments) (commit_text (suc v)) ≡ Some by → Lands (entries_of moments) (history [] moments) (suc v) by
+CommitsLand moments = (v : ℕ) (by : Put) → suc v < 2 ^ 64 → put_under (history [] moments) (commit_text (suc v)) ≡ Some by
+    → Lands (entries_of moments) (history [] moments) (suc v) by
+
+-- what became of a put of a version's commit, by the puts that took effect before it and by all. The version was free and is the statement's; or another
+-- statement had committed it; or it was free and the put took no effect, which the store answered by a fault
+pub data CommitPut (before all : List Put) (version : ℕ) (body : List ℕ) (m : Moment) : Type 0 where
+  Wins : put_under before (commit_text version) ≡ None
+      → put_under all (commit_text version) ≡ Some (record { tag = m.entry.tag; name = commit_text version; body = body; at = m.clock })
+      → (m.entry.answer ≡ Stored) ⊎ (m.entry.answer ≡ Fault) → CommitPut before all version body m
+  Loses : (winner : Put) → put_under before (commit_text version) ≡ Some winner → winner.tag ≢ m.entry.tag
+      → (m.entry.answer ≡ Taken) ⊎ (m.entry.answer ≡ Fault) → CommitPut before all version body m
+  Fails : put_under before (commit_text version) ≡ None → m.entry.answer ≡ Fault → m.took_effect ≡ false → CommitPut before all version body m
+
+-- each put of a commit wins, loses or fails at its own moment, whether its statement ever commits or not
+abbrev pub CommitPutsAreDecided : List Moment → Type 0
+CommitPutsAreDecided moments =
+    (before after : List Moment) (m : Moment) (version : ℕ) (body : List ℕ) → moments ≡ before ++ m ∷ after → version < 2 ^ 64
+    → m.entry.call ≡ PutNew (commit_text version) body
+    → CommitPut (history [] before) (history [] moments) version body m
+
+-- The statement put the commit of version 0 once, and no other commit. Version 0 has that very text; it is the statement's own put, unless a fault was the
+-- answer, when another statement may have put the same text
+pub record HasCreated (journal : Entries) (ps : List Put) (tag : Tag) (spec : TableSpec) : Type 0 where
+  pub puts : versions_put (own tag journal) ≡ 0 ∷ []
+  pub by : Put
+  pub is_by : put_under ps (commit_text 0) ≡ Some by
+  pub text : by.body ≡ text_of_columns (names_of spec.columns)
+  pub is_tag : (by.tag ≡ tag) ⊎ FaultedIn (own tag journal) (commit_text 0) by.body
+
+-- each reply that a table was made is of a statement that makes one, and has made it
+abbrev pub RepliesCreated : (Tag → Option Statement) → (Tag → Option Reply) → List Moment → Type 0
+RepliesCreated script replies moments =
+    (tag : Tag) (statement : Statement) → script tag ≡ Some statement → replies tag ≡ Some Created
+    → (spec : TableSpec) × (statement ≡ Table spec) × HasCreated (entries_of moments) (history [] moments) tag spec
 
 -- the statement committed the version, above the one that it read, by so many puts
 pub record HasCommitted (journal : Entries) (ps : List Put) (tag : Tag) (version read attempts : ℕ) : Type 0 where
@@ -99,13 +181,15 @@ pub record HasCommitted (journal : Entries) (ps : List Put) (tag : Tag) (version
 -- each reply of a commit says which version the statement committed, which one it read, and how many puts it made
 abbrev pub RepliesCommitted : (Tag → Option Statement) → (Tag → Option Reply) → List Moment → Type 0
 RepliesCommitted script replies moments =
-    (tag : Tag) (statement : Statement) (version read attempts : ℕ) (checkpoint : CheckpointOutcome) → script tag ≡ Some statement → replies tag ≡ Some (Committed version read attempts checkpoint)
+    (tag : Tag) (statement : Statement) (version read attempts : ℕ) (checkpoint : CheckpointOutcome) → script tag ≡ Some statement
+    → replies tag ≡ Some (Committed version read attempts checkpoint)
     → HasCommitted (entries_of moments) (history [] moments) tag version read attempts
 
 -- the rows are those of the newest version in the statement's listing, in order, from all its live files
 pub record HasRead (journal : Entries) (ps : List Put) (tag : Tag) (version : ℕ) (given : List Row) (read live : ℕ) : Type 0 where
   pub is_read : version_read (own tag journal) ≡ Some version
   pub committed : IsCommitted ps version
+  pub reads : ReadsAt ps version
   pub rows : Sorts (rows_at ps version) given
   pub files_read : read ≡ length (live_by (commit_at ps) version)
   pub files_live : live ≡ length (live_by (commit_at ps) version)
@@ -113,34 +197,6 @@ pub record HasRead (journal : Entries) (ps : List Put) (tag : Tag) (version : �
 -- each reply of rows has exactly the rows of its version
 abbrev pub RepliesRead : (Tag → Option Statement) → (Tag → Option Reply) → List Moment → Type 0
 RepliesRead script replies moments =
-    (tag : Tag) (statement : Statement) (version : ℕ) (rows : List Row) (files_read files_live : ℕ) → script tag ≡ Some statement → replies tag ≡ Some (Rows version rows files_read files_live)
+    (tag : Tag) (statement : Statement) (version : ℕ) (rows : List Row) (files_read files_live : ℕ) → script tag ≡ Some statement
+    → replies tag ≡ Some (Rows version rows files_read files_live)
     → HasRead (entries_of moments) (history [] moments) tag version rows files_read files_live
-
--- Each holds of every legal completion of a run's journal. Inserts are serial at both levels.
-abbrev pub EachVersionIsSerial : Type 0
-EachVersionIsSerial =
-    (level : Level) (limit : ℕ) (script : Tag → Option Statement) (kepts : Tag → Option Kept) (replies : Tag → Option Reply) (moments : List Moment) → IsLegal [] 0 moments → IsRun limit script kepts replies (entries_of moments)
-    → VersionsAreSerial level script moments
-
-abbrev pub FirstVersionIsEmpty : Type 0
-FirstVersionIsEmpty = (moments : List Moment) → FirstIsEmpty moments
-
-abbrev pub EachStatementCommitsOnce : Type 0
-EachStatementCommitsOnce =
-    (limit : ℕ) (script : Tag → Option Statement) (kepts : Tag → Option Kept) (replies : Tag → Option Reply) (moments : List Moment) → IsLegal [] 0 moments → IsRun limit script kepts replies (entries_of moments)
-    → CommitsOnce moments
-
-abbrev pub EachCommitLands : Type 0
-EachCommitLands =
-    (limit : ℕ) (script : Tag → Option Statement) (kepts : Tag → Option Kept) (replies : Tag → Option Reply) (moments : List Moment) → IsLegal [] 0 moments → IsRun limit script kepts replies (entries_of moments)
-    → CommitsLand moments
-
-abbrev pub EachReplyCommitted : Type 0
-EachReplyCommitted =
-    (limit : ℕ) (script : Tag → Option Statement) (kepts : Tag → Option Kept) (replies : Tag → Option Reply) (moments : List Moment) → IsLegal [] 0 moments → IsRun limit script kepts replies (entries_of moments)
-    → RepliesCommitted script replies moments
-
-abbrev pub EachReplyRead : Type 0
-EachReplyRead =
-    (limit : ℕ) (script : Tag → Option Statement) (kepts : Tag → Option Kept) (replies : Tag → Option Reply) (moments : List Moment) → IsLegal [] 0 moments → IsRun limit script kepts replies (entries_of moments)
-    → RepliesRead script replies moments

@@ -1,11 +1,11 @@
 pub mod Rows
 pub mod Operations
 pub mod Files
-pub mod Effects
-pub mod Conflicts
+pub mod Levels
 pub mod Serial
 pub mod History
 pub mod Runs
 pub mod Laws
 pub mod Folded
 pub mod Refused
+pub mod Lawful

@@ -39,16 +39,19 @@ result_of (Compact pick) xs = []
 abbrev pub operated : Operation → List Row → List Row
 operated op rows = others (scope_of op) rows ++ result_of op (filter (scope_of op) rows)
 
+-- whether it is an append of literal rows
 abbrev pub is_insert : Operation → Bool
 is_insert (Insert rows) = true
 is_insert (Change P g r) = false
 is_insert (Compact pick) = false
 
+-- whether it changes the rows of a scope
 abbrev pub is_change : Operation → Bool
 is_change (Insert rows) = false
 is_change (Change P g r) = true
 is_change (Compact pick) = false
 
+-- whether it rewrites files as they are
 abbrev pub is_compaction : Operation → Bool
 is_compaction (Insert rows) = false
 is_compaction (Change P g r) = false
@@ -60,6 +63,7 @@ inserted (Insert rows) = rows
 inserted (Change P g r) = []
 inserted (Compact pick) = []
 
+-- whether a row is of the scope
 abbrev pub any_row : (Row → Bool) → List Row → Bool
 any_row P [] = false
 any_row P (x ∷ xs) = if P x then true else any_row P xs

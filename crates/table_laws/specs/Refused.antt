@@ -3,7 +3,7 @@ use Rattle.std.specs.Prelude.{◌≡◌, ◌⊎◌, ℕ, List, [], ◌∷◌, Op
 use Rattle.edge_api.specs.declared.call.Tag.{Tag}
 use Rattle.edge_api.specs.declared.call.Call.TheVariants.{PutNew}
 use Rattle.edge_api.specs.declared.call.Answer.TheVariants.{Fault}
-use Rattle.edge_api.specs.Journal.{Moment, IsLegal, entries_of}
+use Rattle.edge_api.specs.Journal.{Moment, entries_of}
 use Rattle.op_types.specs.declared.statement.Statement.{Statement}
 use Rattle.op_types.specs.declared.refusal.Refusal.{Refusal}
 use Rattle.op_types.specs.declared.refusal.Refusal.TheVariants as refusal
@@ -11,10 +11,8 @@ use Rattle.op_types.specs.declared.reply.Reply.{Reply}
 use Rattle.op_types.specs.declared.reply.Reply.TheVariants.{Refused}
 use Rattle.table_rules.specs.Names.{commit_text}
 use Rattle.call_phases.specs.Phases.{Entries}
-use Rattle.txn_machine.specs.Answered.{Kept}
 use Rattle.actor_core.specs.Entries.{own}
 use Rattle.table_laws.specs.History.{Put, history, put_under}
-use Rattle.table_laws.specs.Runs.{IsRun}
 
 -- the refusals that leave open whether a version was committed
 abbrev pub IsUnknown : Refusal → Type 0
@@ -42,10 +40,6 @@ FaultedIn (e ∷ es) name body = ((e.call ≡ PutNew name body) × (e.answer ≡
 -- the commit was answered by a fault
 abbrev pub RefusedCommitNothing : (Tag → Option Statement) → (Tag → Option Reply) → List Moment → Type 0
 RefusedCommitNothing script replies moments =
-    (tag : Tag) (statement : Statement) (r : Refusal) (version : ℕ) (p : Put) → script tag ≡ Some statement → replies tag ≡ Some (Refused r) → put_under (history [] moments) (commit_text version) ≡ Some p → p.tag ≡ tag
+    (tag : Tag) (statement : Statement) (r : Refusal) (version : ℕ) (p : Put) → script tag ≡ Some statement → replies tag ≡ Some (Refused r)
+    → put_under (history [] moments) (commit_text version) ≡ Some p → p.tag ≡ tag
     → IsUnknown r × FaultedIn (own tag (entries_of moments)) (commit_text version) p.body
-
-abbrev pub EachRefusalCommitsNothing : Type 0
-EachRefusalCommitsNothing =
-    (limit : ℕ) (script : Tag → Option Statement) (kepts : Tag → Option Kept) (replies : Tag → Option Reply) (moments : List Moment) → IsLegal [] 0 moments → IsRun limit script kepts replies (entries_of moments)
-    → RefusedCommitNothing script replies moments

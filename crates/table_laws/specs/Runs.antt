@@ -20,6 +20,7 @@ use Rattle.txn_machine.specs.Texts.{read_commit}
 use Rattle.txn_machine.specs.Answered.{Kept, Answered}
 use Rattle.actor_core.specs.Entries.{own}
 
+-- the entries of a tag answer its statement, if it has one, and are none otherwise
 abbrev pub IsAnsweredPart : ℕ → Tag → Option Kept → Option Statement → Entries → Option Reply → Type 0
 IsAnsweredPart limit tag kept None part reply = part ≡ []
 IsAnsweredPart limit tag kept (Some statement) part reply = Answered tag limit kept statement part reply
@@ -28,6 +29,7 @@ IsAnsweredPart limit tag kept (Some statement) part reply = Answered tag limit k
 abbrev pub IsAnswered : ℕ → (Tag → Option Statement) → (Tag → Option Kept) → (Tag → Option Reply) → Entries → Type 0
 IsAnswered limit script kepts replies journal = (tag : Tag) → IsAnsweredPart limit tag (kepts tag) (script tag) (own tag journal) (replies tag)
 
+-- the first of two, if it is there
 abbrev pub or_first : {A : Type 0} → Option A → Option A → Option A
 or_first None b = b
 or_first (Some a) b = Some a
@@ -51,6 +53,7 @@ first_given by (e ∷ es) = or_first (by e.call e.answer) (first_given by es)
 abbrev pub version_read : Entries → Option ℕ
 version_read es = first_given listed_by es
 
+-- the start of a statement, by its entries
 abbrev pub started_at : Entries → Option ℕ
 started_at es = first_given told_by es
 
@@ -64,6 +67,7 @@ version_put (Delete name) = None
 version_put Now = None
 version_put (Wait time) = None
 
+-- a version before others, where there is one
 abbrev pub with_version : Option ℕ → List ℕ → List ℕ
 with_version None vs = vs
 with_version (Some v) vs = v ∷ vs
@@ -78,6 +82,7 @@ abbrev pub GotIn : Entries → List ℕ → List ℕ → Type 0
 GotIn [] name body = ⊥
 GotIn (e ∷ es) name body = ((e.call ≡ Get name) × (e.answer ≡ Body body)) ⊎ GotIn es name body
 
+-- a put of the body under the name was answered as stored
 abbrev pub StoredIn : Entries → List ℕ → List ℕ → Type 0
 StoredIn [] name body = ⊥
 StoredIn (e ∷ es) name body = ((e.call ≡ PutNew name body) × (e.answer ≡ Stored)) ⊎ StoredIn es name body
@@ -85,12 +90,14 @@ StoredIn (e ∷ es) name body = ((e.call ≡ PutNew name body) × (e.answer ≡ 
 -- the table of so many versions, by the bodies that are known under the names of their commits
 abbrev pub LoadedTo : (List ℕ → List ℕ → Type 0) → ℕ → Snapshot → Type 0
 LoadedTo knows zero s = s ≡ no_table
-LoadedTo knows (suc v) s = (r : Snapshot) × (text : List ℕ) × (t : Commit) × LoadedTo knows v r × knows (commit_text v) text × (read_commit v text ≡ Some t) × (s ≡ applied r t)
+LoadedTo knows (suc v) s = (r : Snapshot) × (text : List ℕ) × (t : Commit) × LoadedTo knows v r × knows (commit_text v) text
+    × (read_commit v text ≡ Some t) × (s ≡ applied r t)
 
 -- what the statements of a tag's session got or stored, before or after
 abbrev pub SessionKnows : Entries → Tag → List ℕ → List ℕ → Type 0
 SessionKnows journal tag name body = (other : Tag) × (other.actor ≡ tag.actor) × (GotIn (own other journal) name body ⊎ StoredIn (own other journal) name body)
 
+-- what is kept of a load is the table of its versions, by what is known
 abbrev pub KeptPart : (List ℕ → List ℕ → Type 0) → Option Kept → Type 0
 KeptPart knows None = Unit {0}
 KeptPart knows (Some k) = LoadedTo knows k.versions k.state

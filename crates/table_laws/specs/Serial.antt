@@ -4,7 +4,7 @@ use Rattle.std.specs.List.{filter}
 use Rattle.row_base.specs.Bags.{SameRows, IsContained, without}
 use Rattle.table_laws.specs.Rows.{Row}
 use Rattle.table_laws.specs.Operations.{Operation, scope_of, operated}
-use Rattle.table_laws.specs.Conflicts.{Level, Serializable, WriteSerializable}
+use Rattle.table_laws.specs.Levels.{Level, Serializable, WriteSerializable}
 
 -- the rows that the versions above r up to k give
 abbrev pub between : (ℕ → List Row) → ℕ → ℕ → List Row

@@ -5,7 +5,6 @@ use Rattle.edge_api.specs.declared.call.Tag.{Tag}
 use Rattle.edge_api.specs.declared.call.Listed.{Listed}
 use Rattle.edge_api.specs.declared.call.Answer.{Answer}
 use Rattle.edge_api.specs.declared.call.Answer.TheVariants.{Body}
-use Rattle.op_types.specs.declared.statement.Statement.{Statement}
 use Rattle.table_rules.specs.Names.{commit_text}
 use Rattle.row_base.specs.declared.row.ScannedFile.{ScannedFile}
 use Rattle.op_types.specs.declared.refusal.Refusal.TheVariants as refusal
@@ -15,6 +14,7 @@ use Rattle.call_phases.specs.Phases.{Entries, OnGot}
 use Rattle.committer.specs.declared.fault.Landed.{Landed}
 use Rattle.snapshot_replay.specs.Table.{Add, Snapshot, Commit, no_table, applied, paths_of}
 use Rattle.txn_machine.specs.declared.judge.CommitJudge.{CommitJudge}
+use Rattle.txn_machine.specs.declared.statement.TableStatement.{TableStatement}
 use Rattle.txn_machine.specs.Phases.{IsOpen, Ends, Cut, Replies, missing, AtLoad, AtFiles}
 use Rattle.txn_machine.specs.Reading.{Extends}
 use Rattle.txn_machine.specs.Answered.{AtCommit, AfterLoad, Loads, Selected, version_limit}
@@ -54,7 +54,7 @@ match_some : {A : Type 0} (o : Option A) (a : A) (P : Type 0) (Q : A → Type 0)
 match_some None a P Q is h = cc
 match_some (Some b) a P Q is h = let same : b ≡ a = cc in subst Q (sym same) h
 
-module _ (tag : Tag) (limit : ℕ) (statement : Statement) (start : ℕ) (l : List Listed) (reply : Option Reply) (v : ℕ) (es : Entries) (small : nat_lt v version_limit ≡ true) where
+module _ (tag : Tag) (limit : ℕ) (statement : TableStatement) (start : ℕ) (l : List Listed) (reply : Option Reply) (v : ℕ) (es : Entries) (small : nat_lt v version_limit ≡ true) where
   -- all that is needed is listed
   pub loads_on : missing l 0 (suc v) ≡ None → AtLoad reply (suc v) 0 no_table (AfterLoad tag limit statement start v reply) es → Loads tag limit None statement start l reply (Some v) es
   loads_on none h = match_true (nat_lt v version_limit) _ _ small (inr (match_none (missing l 0 (suc v)) _ _ none h))

@@ -1,13 +1,12 @@
 -- Which replies a statement may give to the entries that it made.
 use Rattle.std.specs.Prelude.{◌≡◌, ◌⊎◌, ℕ, zero, suc, ◌+◌, ◌-◌, ◌*◌, ◌^◌, nat_lt, Bool, true, false, if◌then◌else◌, List, [], ◌∷◌, ◌++◌, length, Option, Some, None, MatchOption, MatchBool, Result, Ok, Err}
-use Rattle.std.specs.List.Sorted.{IsSorted, IsPermutation}
 use Rattle.edge_api.specs.declared.call.Tag.{Tag}
 use Rattle.edge_api.specs.declared.call.Listed.{Listed}
 use Rattle.edge_api.specs.declared.call.CallKind.TheVariants as kind
 use Rattle.row_base.specs.declared.row.Datum.{Datum}
 use Rattle.row_base.specs.declared.row.ScannedFile.{ScannedFile}
 use Rattle.row_base.specs.declared.schema.Column.{Column}
-use Rattle.row_base.specs.RowOrder.{row_cmp}
+use Rattle.row_base.specs.Sorting.{Sorts}
 use Rattle.op_types.specs.declared.statement.Statement.{Statement}
 use Rattle.op_types.specs.declared.statement.Statement.TheVariants.{Table, Insert, Select}
 use Rattle.op_types.specs.declared.refusal.Refusal.{Refusal}
@@ -26,10 +25,12 @@ use Rattle.committer.specs.declared.fault.AttemptFault.TheVariants as fault
 use Rattle.committer.specs.declared.fault.Landed.{Landed}
 use Rattle.committer.specs.Attempts.{Terms, AtAttempt}
 use Rattle.txn_machine.specs.declared.judge.CommitJudge.{CommitJudge}
+use Rattle.txn_machine.specs.declared.statement.TableStatement.{TableStatement}
+use Rattle.txn_machine.specs.declared.statement.TableStatement.TheVariants as over
 use Rattle.txn_machine.specs.Judging.{Bodies, Judges}
 use Rattle.txn_machine.specs.Phases.{IsOpen, IsCutShort, Ends, Cut, Replies, called, newest, missing, AtLoad, AtFiles}
 
--- how long a commit may take, doubled, in milliseconds: one week
+-- the retention of a table, in milliseconds: one week. A commit may take half of it
 abbrev pub retention : ℕ
 retention = 604800000
 
@@ -53,19 +54,16 @@ abbrev pub rows_of_files : List ScannedFile → List (List Datum)
 rows_of_files [] = []
 rows_of_files (f ∷ fs) = f.rows ++ rows_of_files fs
 
--- these rows in order: each as often, and none before a lesser one
-pub record Sorts (rows sorted : List (List Datum)) : Type 0 where
-  pub same : IsPermutation rows sorted
-  pub order : IsSorted row_cmp sorted
-
 -- the reply of a select: the rows of the files got, in order
 abbrev pub IsSelected : ℕ → ℕ → List ScannedFile → Reply → Type 0
-IsSelected version live got (Rows v rows files_read files_live) = (v ≡ version) × Sorts (rows_of_files got) rows × (files_read ≡ length got) × (files_live ≡ live)
+IsSelected version live got (Rows v rows files_read files_live) = (v ≡ version) × Sorts (rows_of_files got) rows × (files_read ≡ length got)
+    × (files_live ≡ live)
 IsSelected version live got Created = ⊥
 IsSelected version live got (Committed v read attempts checkpoint) = ⊥
 IsSelected version live got Killed = ⊥
 IsSelected version live got (Refused r) = ⊥
 
+-- the reply is there, and is such a one
 abbrev pub IsReplied : (Reply → Type 0) → Option Reply → Type 0
 IsReplied P None = ⊥
 IsReplied P (Some reply) = P reply
@@ -89,10 +87,12 @@ abbrev pub load_count : Option Kept → ℕ → ℕ
 load_count None version = suc version
 load_count (Some k) version = if nat_lt (version + 1) k.versions then suc version else version + 1 - k.versions
 
+-- the table before the first commit that is got
 abbrev pub load_base : Option Kept → ℕ → Snapshot
 load_base None version = no_table
 load_base (Some k) version = if nat_lt (version + 1) k.versions then no_table else k.state
 
+-- the names of columns
 abbrev pub names_of : List Column → List (List ℕ)
 names_of [] = []
 names_of (c ∷ cs) = c.name ∷ names_of cs
@@ -100,9 +100,11 @@ names_of (c ∷ cs) = c.name ∷ names_of cs
 -- the attempts of a statement that started then, from a version on
 abbrev pub AtCommit : Option Reply → ℕ → ℕ → ℕ → CommitJudge → (Landed → Reply) → Entries → Type 0
 AtCommit reply tries start first j landed es =
-    AtAttempt Bodies Judges (record { start = start; retention = retention; first = first }) (λ j. IsOpen reply) (λ j f rest. Ends reply (refusal_of f) rest) (λ j l rest. Replies reply (landed l) rest)
+    AtAttempt Bodies Judges (record { start = start; retention = retention; first = first }) (λ j. IsOpen reply)
+    (λ j f rest. Ends reply (refusal_of f) rest) (λ j l rest. Replies reply (landed l) rest)
     tries 0 [] j es
 
+-- the reply of a commit that landed
 abbrev pub committed : ℕ → Landed → Reply
 committed read l = Committed l.version read l.attempts NotDue
 
@@ -110,7 +112,8 @@ committed read l = Committed l.version read l.attempts NotDue
 abbrev pub AtData : ℕ → List ℕ → List ℕ → ℕ → ℕ → Option Reply → Entries → Type 0
 AtData limit path body start read reply es =
     AtPutNew (IsOpen reply) path body (Ends reply (refusal.Fault (called kind.PutNew path)))
-    (λ rest. AtCommit reply limit start (read + 1) (record { text = text_of_add path; makes_table = false }) (committed read) rest) (Ends reply (refusal.NameTaken path)) es
+    (λ rest. AtCommit reply limit start (read + 1) (record { text = text_of_add path; makes_table = false }) (committed read) rest)
+    (Ends reply (refusal.NameTaken path)) es
 
 module _ (tag : Tag) (limit : ℕ) where
   -- an append of rows: its data file, then its commit
@@ -122,13 +125,12 @@ module _ (tag : Tag) (limit : ℕ) where
   Selects read reply s es = AtFiles reply (paths_of s.files) [] (Selected read (length s.files) reply) es
 
   -- once the table is loaded
-  abbrev pub AfterLoad : Statement → ℕ → ℕ → Option Reply → Snapshot → Entries → Type 0
-  AfterLoad (Table spec) start read reply s es = Ends reply refusal.TableThere es
-  AfterLoad (Insert rows) start read reply s es = Appends rows start read reply es
-  AfterLoad Select start read reply s es = Selects read reply s es
+  abbrev pub AfterLoad : TableStatement → ℕ → ℕ → Option Reply → Snapshot → Entries → Type 0
+  AfterLoad (over.Insert rows) start read reply s es = Appends rows start read reply es
+  AfterLoad over.Select start read reply s es = Selects read reply s es
 
   -- the newest version is loaded; the commits that are needed for it are looked for in the listing first
-  abbrev pub Loads : Option Kept → Statement → ℕ → List Listed → Option Reply → Option ℕ → Entries → Type 0
+  abbrev pub Loads : Option Kept → TableStatement → ℕ → List Listed → Option Reply → Option ℕ → Entries → Type 0
   Loads kept statement start l reply None es = Ends reply refusal.NoTable es
   Loads kept statement start l reply (Some v) es =
       MatchBool (nat_lt v version_limit)
@@ -142,15 +144,18 @@ module _ (tag : Tag) (limit : ℕ) where
   Makes columns start reply None es = AtCommit reply limit start 0 (record { text = text_of_columns (names_of columns); makes_table = true }) (λ l. Created) es
   Makes columns start reply (Some v) es = Ends reply refusal.TableThere es
 
+  -- once the log is listed
   abbrev pub AfterListing : Option Kept → Statement → ℕ → Option Reply → List Listed → Entries → Type 0
   AfterListing kept (Table spec) start reply l es = Makes spec.columns start reply (newest l) es
-  AfterListing kept (Insert rows) start reply l es = Loads kept (Insert rows) start l reply (newest l) es
-  AfterListing kept Select start reply l es = Loads kept Select start l reply (newest l) es
+  AfterListing kept (Insert rows) start reply l es = Loads kept (over.Insert rows) start l reply (newest l) es
+  AfterListing kept Select start reply l es = Loads kept over.Select start l reply (newest l) es
 
   -- the log is listed
   abbrev pub AtLog : Option Kept → Statement → ℕ → Option Reply → Entries → Type 0
-  AtLog kept statement start reply es = AtList (IsOpen reply) log_prefix (Ends reply (refusal.Fault (called kind.List log_prefix))) (AfterListing kept statement start reply) es
+  AtLog kept statement start reply es =
+      AtList (IsOpen reply) log_prefix (Ends reply (refusal.Fault (called kind.List log_prefix))) (AfterListing kept statement start reply) es
 
   -- the start of the statement, the listing of the log, and what follows
   abbrev pub Answered : Option Kept → Statement → Entries → Option Reply → Type 0
-  Answered kept statement es reply = AtNow (IsOpen reply) (Ends reply (refusal.Fault (called kind.Now []))) (λ start rest. AtLog kept statement start reply rest) es
+  Answered kept statement es reply =
+      AtNow (IsOpen reply) (Ends reply (refusal.Fault (called kind.Now []))) (λ start rest. AtLog kept statement start reply rest) es

@@ -16,5 +16,6 @@ Bodies j now made new = (new ≡ j) × OnBody made (Unit {0}) (λ bytes. ⊥) (�
 abbrev pub verdict_of : CommitJudge → List ℕ → Verdict Clash
 verdict_of j winner = if j.makes_table then verdict.Clash clash.Protocol else verdict.Clear winner
 
+-- a judge says its verdict, and stays as it is
 abbrev pub Judges : CommitJudge → List ℕ → Verdict Clash → CommitJudge → Type 0
 Judges j winner v new = (new ≡ j) × (v ≡ verdict_of j winner)

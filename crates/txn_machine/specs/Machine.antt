@@ -1,6 +1,6 @@
 -- Where a statement stands between two calls, and what is still to come.
 use Rattle.std.specs.Prelude.{◌≡◌, ◌⊎◌, ℕ, suc, ◌+◌, ◌*◌, length, Bool, true, false, List, [], ◌∷◌, ◌++◌, Option, Some, None, Result, Ok, Err}
-use Rattle.std.specs.declared.alloc.AllocError.{AllocError}
+use Rattle.row_base.specs.declared.memory.NoMemory.{NoMemory}
 use Rattle.edge_api.specs.declared.call.Tag.{Tag}
 use Rattle.edge_api.specs.declared.call.Call.{Call}
 use Rattle.edge_api.specs.declared.call.Call.TheVariants.{Get, PutNew, List as ListNames, Now}
@@ -56,6 +56,7 @@ Rest p (stage.Data d) es reply = AtData p.limit d.path d.body d.start d.read rep
 Rest p (stage.Attempting a) es reply = AtAttempting a reply es
 Rest p (stage.Done r) es reply = Replies reply r es
 
+-- the call that gets the first of these files
 abbrev pub first_get : List (List ℕ) → Option Call
 first_get [] = None
 first_get (path ∷ paths) = Some (Get path)
@@ -72,7 +73,8 @@ call_of (stage.Done r) = None
 
 -- an answered call leads from old to new
 abbrev pub Follows : Plan → Stage → Call → Answer → Stage → Type 0
-Follows p old call answer new = (es : Entries) (reply : Option Reply) → Rest p new es reply → Rest p old (record { tag = p.tag; call = call; answer = answer } ∷ es) reply
+Follows p old call answer new = (es : Entries) (reply : Option Reply) → Rest p new es reply
+    → Rest p old (record { tag = p.tag; call = call; answer = answer } ∷ es) reply
 
 -- want of memory for the call ends the statement, which was open
 abbrev pub EndsOpen : Plan → Stage → Stage → Type 0
@@ -98,6 +100,6 @@ abbrev pub ahead_of : Stage → Ahead
 ahead_of s = record { stage = s; call = call_of s }
 
 -- what was made, or the end for want of memory
-abbrev pub or_no_memory : Result Ahead AllocError → Ahead
+abbrev pub or_no_memory : Result Ahead NoMemory → Ahead
 or_no_memory (Ok ahead) = ahead
 or_no_memory (Err e) = ahead_of (stage.Done (Refused refusal.NoMemory))

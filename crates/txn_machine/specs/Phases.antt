@@ -39,6 +39,7 @@ Cut reply es = (es ≡ []) × IsCutShort reply
 abbrev pub Replies : Option Reply → Reply → Entries → Type 0
 Replies reply is es = (es ≡ []) × (reply ≡ Some is)
 
+-- a call of this kind under a name
 abbrev pub called : CallKind → List ℕ → Called
 called kind name = record { kind = kind; name = name }
 
@@ -51,9 +52,11 @@ commit_of log.Hint = None
 commit_of log.OtherLog = None
 commit_of log.Outside = None
 
+-- the version whose commit has the name, if it is a commit
 abbrev pub commit_version : List ℕ → Option ℕ
 commit_version name = commit_of (log_name name)
 
+-- the greater of two versions
 abbrev pub later : Option ℕ → Option ℕ → Option ℕ
 later None b = b
 later (Some a) None = Some a
@@ -64,6 +67,7 @@ abbrev pub newest : List Listed → Option ℕ
 newest [] = None
 newest (l ∷ ls) = later (commit_version l.name) (newest ls)
 
+-- whether it is this version
 abbrev pub is_version : ℕ → Option ℕ → Bool
 is_version v None = false
 is_version v (Some w) = v == w
@@ -83,11 +87,13 @@ abbrev pub AtLoad : Option Reply → ℕ → ℕ → Snapshot → (Snapshot → 
 AtLoad reply zero at s next es = next s es
 AtLoad reply (suc n) at s next es =
     AtGet (IsOpen reply) (commit_text at) (Ends reply (refusal.Fault (called kind.Get (commit_text at)))) (Ends reply (refusal.LogGone (commit_text at)))
-    (λ text rest. Cut reply rest ⊎ MatchOption (read_commit at text) (Ends reply (refusal.BadObject (commit_text at) (commit_fault at text)) rest) (λ t. AtLoad reply n (at + 1) (applied s t) next rest)) es
+    (λ text rest. Cut reply rest ⊎ MatchOption (read_commit at text) (Ends reply (refusal.BadObject (commit_text at) (commit_fault at text)) rest)
+    (λ t. AtLoad reply n (at + 1) (applied s t) next rest)) es
 
 -- one get for each of these data files, in order. The files got are handed on with their rows
 abbrev pub AtFiles : Option Reply → List (List ℕ) → List ScannedFile → (List ScannedFile → Entries → Type 0) → Entries → Type 0
 AtFiles reply [] got next es = next got es
 AtFiles reply (path ∷ paths) got next es =
     AtGet (IsOpen reply) path (Ends reply (refusal.Fault (called kind.Get path))) (Ends reply (refusal.FileGone path))
-    (λ text rest. Cut reply rest ⊎ MatchOption (read_file text) (Ends reply (refusal.BadObject path (file_fault text)) rest) (λ rows. AtFiles reply paths (got ++ record { path = path; rows = rows } ∷ []) next rest)) es
+    (λ text rest. Cut reply rest ⊎ MatchOption (read_file text) (Ends reply (refusal.BadObject path (file_fault text)) rest)
+    (λ rows. AtFiles reply paths (got ++ record { path = path; rows = rows } ∷ []) next rest)) es

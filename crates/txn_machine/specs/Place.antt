@@ -9,14 +9,17 @@ use Rattle.committer.specs.Machine as attempts
 use Rattle.txn_machine.specs.declared.stage.Stage.{Stage}
 use Rattle.txn_machine.specs.declared.stage.Stage.TheVariants as stage
 
+-- where a statement stands in its attempts, by whether its next call puts a commit
 abbrev pub place_of_put : Bool → Place
 place_of_put true = place.Attempt
 place_of_put false = place.Running
 
+-- where a statement stands that gets these files next
 abbrev pub place_of_files : List (List ℕ) → Place
 place_of_files [] = place.Done
 place_of_files (path ∷ paths) = place.Running
 
+-- where a statement stands in its attempts, by their next call
 abbrev pub place_of_attempts : Option Call → Place
 place_of_attempts None = place.Done
 place_of_attempts (Some call) = place_of_put (attempts.is_put (Some call))

@@ -17,6 +17,7 @@ or_no_change (Some t) = t
 abbrev pub commit_in : List (List ℕ) → ℕ → Commit
 commit_in texts version = or_no_change (option_and_then (read_commit version) (slice_get texts version))
 
+-- no rows, where a text has no reading
 abbrev pub or_no_rows : Option (List (List Datum)) → List (List Datum)
 or_no_rows None = []
 or_no_rows (Some rows) = rows

@@ -9,6 +9,7 @@ use Rattle.snapshot_replay.specs.Table.{Commit, Snapshot, applied}
 use Rattle.txn_machine.specs.declared.texts.Unread.{Unread}
 use Rattle.txn_machine.specs.declared.texts.Unread.TheVariants as unread
 
+-- the fault of a text, as that of an object
 abbrev pub unread_by : TextFault → Unread
 unread_by (text.Line n) = unread.Bad (Line n Shape)
 unread_by text.NoMemory = unread.NoMemory

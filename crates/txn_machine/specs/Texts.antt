@@ -19,5 +19,6 @@ commit_fault version text = Line (if version == 0 then bad_line_of_columns text 
 abbrev pub read_file : List ℕ → Option (List (List Datum))
 read_file text = rows_of_text text
 
+-- the first bad line of a data file that has no rows
 abbrev pub file_fault : List ℕ → ObjectFault
 file_fault text = Line (bad_line_of_rows text) Shape

@@ -15,6 +15,7 @@ abbrev pub LeftBy : ℕ → Option Call → Type 0
 LeftBy n None = n ≡ 0
 LeftBy n (Some call) = 0 < n
 
+-- calls are left at a stage exactly where there is a next one
 abbrev pub IsNothingLeft : Plan → Stage → Option Call → Type 0
 IsNothingLeft p s o = LeftBy (left_of p s) o
 
@@ -33,5 +34,6 @@ pub record Asks (old : Txn) (tag : Tag) (call : Call) (new : Txn) : Type 0 where
 
 -- an event leads from one to the other; after want of memory nothing is called any more
 abbrev pub Goes : Txn → Event → Txn → Type 0
-Goes old (Made e) new = (new.plan ≡ old.plan) × (e.tag ≡ old.plan.tag) × ((es : Entries) (reply : Option Reply) → Rest old.plan new.stage es reply → Rest old.plan old.stage (e ∷ es) reply)
+Goes old (Made e) new = (new.plan ≡ old.plan) × (e.tag ≡ old.plan.tag)
+    × ((es : Entries) (reply : Option Reply) → Rest old.plan new.stage es reply → Rest old.plan old.stage (e ∷ es) reply)
 Goes old Wanting new = (new.plan ≡ old.plan) × (call_of new.stage ≡ None) × EndsOpen old.plan old.stage new.stage

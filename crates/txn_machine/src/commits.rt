@@ -13,9 +13,9 @@ ghost use Rattle.committer.specs.Machine as attempts;
 ghost use Rattle.committer.specs.Machine.{IsReady};
 ghost use Rattle.txn_machine.specs.Machine.{reply_after, landed_after, AtAttempting, FedTo, EndsOpen, Rest, Follows, call_of, left_of};
 
-use crate::CommitJudge;
 use crate::listing::newest_version;
 use crate::stage::{Ahead, Attempting, DataPut, Files, Listing, Loading, Plan, Stage, Start};
+use crate::{CommitJudge, TableStatement};
 use committer::{AttemptFault, Attempts, Landed};
 use edge_api::{Answer, Body, CallKind, Fed, Listed};
 use line_texts::{write_add, write_columns};
@@ -25,7 +25,7 @@ use snapshot_replay::State;
 use std::alloc::Global;
 use table_rules::log_prefix;
 
-/// How long a commit may take, doubled, in milliseconds: one week.
+/// The retention of a table, in milliseconds: one week. A commit may take half of it.
 const RETENTION: u64 = 604_800_000;
 
 /// The refusal of a statement whose attempts failed so.
@@ -179,9 +179,9 @@ impl Plan {
         match statement {
             Statement::Table(spec) => self.makes(&spec, start, newest),
             Statement::Insert { rows } => {
-                self.loads(Statement::Insert { rows }, start, listing, newest)
+                self.loads(TableStatement::Insert { rows }, start, listing, newest)
             }
-            Statement::Select => self.loads(Statement::Select, start, listing, newest),
+            Statement::Select => self.loads(TableStatement::Select, start, listing, newest),
         }
     }
 

@@ -8,13 +8,12 @@ mod machine;
 mod place;
 mod plain;
 mod stage;
+mod statement;
 mod texts;
 mod txn;
 
 pub use judge::CommitJudge;
 pub use plain::{DataFile, replay};
 pub use stage::{Ahead, Attempting, DataPut, Files, Listing, Loading, Plan, Stage, Start};
+pub use statement::TableStatement;
 pub use txn::{Finish, Txn};
-
-#[cfg(test)]
-mod tests;

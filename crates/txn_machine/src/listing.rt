@@ -4,7 +4,8 @@ ghost use Rattle.txn_machine.specs.Phases.{newest, missing, commit_version, late
 ghost use Rattle.txn_machine.specs.Listing.{Marks, mark_at};
 
 use edge_api::{Listed, Name};
-use std::alloc::{AllocError, Global};
+use row_base::NoMemory;
+use std::alloc::Global;
 use table_rules::{LogName, read_log_name};
 
 /// The version whose commit has the name.
@@ -72,7 +73,7 @@ fn marks_of(
     listing: &[Listed],
     first: u64,
     count: usize,
-) -> Result<Vec<bool>, AllocError>
+) -> Result<Vec<bool>, NoMemory>
     ensures same { IfOk result (λ marks. length marks.items ≡ count) }
     ensures marked { IfOk result (λ marks. (k : ℕ) → k < count → mark_at marks.items k ≡ is_listed (first + k) listing.now) }
 {
@@ -89,7 +90,7 @@ fn missing_version(
     listing: &[Listed],
     first: u64,
     count: usize,
-) -> Result<Option<u64>, AllocError>
+) -> Result<Option<u64>, NoMemory>
     requires { first + count ≤ 2 ^ 62 }
     ensures { IfOk result (λ version. version ≡ missing listing.now first count) }
 {
@@ -102,7 +103,7 @@ pub fn missing_up_to(
     alloc: Global,
     listing: &[Listed],
     version: u64,
-) -> Result<Option<u64>, AllocError>
+) -> Result<Option<u64>, NoMemory>
     requires { version < 2 ^ 20 }
     ensures { IfOk result (λ gone. gone ≡ missing listing.now 0 (suc version)) }
 {

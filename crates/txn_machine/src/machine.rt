@@ -5,53 +5,43 @@ ghost use Rattle.edge_api.specs.Journal.{IsOfKind};
 ghost use Rattle.op_types.specs.declared.reply.Reply.{Reply as AReply};
 ghost use Rattle.op_types.specs.declared.refusal.Refusal.TheVariants as refusal;
 ghost use Rattle.table_rules.specs.Names.{log_prefix, commit_text, data_text};
+ghost use Rattle.row_base.specs.Sorting.{Sorts};
 ghost use Rattle.line_texts.specs.Texts.{text_of_rows};
 ghost use Rattle.call_phases.specs.Phases.{Entries};
 ghost use Rattle.txn_machine.specs.Phases.{AtLoad, AtFiles, Cut, Ends, missing, newest};
-ghost use Rattle.txn_machine.specs.Answered.{AtLog, AtData, rows_of_files, Sorts, Selected, Selects, Appends, AfterLoad, Loads};
+ghost use Rattle.txn_machine.specs.Answered.{AtLog, AtData, rows_of_files, Selected, Selects, Appends, AfterLoad, Loads};
 ghost use Rattle.txn_machine.specs.Machine.{Rest, Follows, call_of, left_of, ahead_of, or_no_memory, first_get};
 
+use crate::TableStatement;
 use crate::listing::missing_up_to;
 use crate::stage::{Ahead, DataPut, Files, Listing, Loading, Plan, Stage, Start};
 use crate::texts::{Unread, apply_commit, rows_of_file};
 use edge_api::{Answer, Body, Call, CallKind, Called, Listed, Name};
 use line_texts::write_rows;
 use op_types::{Feature, Refusal, Reply, Statement};
-use row_base::{NoMemory, Row, Rows, ScannedFile, Text, cmp_rows, row_order_is_total};
+use row_base::limits::VERSION_LIMIT;
+use row_base::{NoMemory, Rows, ScannedFile, sorted};
 use snapshot_replay::State;
-use std::alloc::{AllocError, Global};
+use std::alloc::Global;
 use table_rules::{commit_name, data_file_name, log_prefix};
 
-/// The first version that isn't supported.
-const VERSION_LIMIT: u64 = 1_048_576;
-
 /// The rows of files, one file after another. The error is want of memory.
-fn all_rows(alloc: Global, files: Vec<ScannedFile>) -> Result<Vec<Row>, AllocError>
-    ensures { IfOk result (λ rows. rows.items ≡ rows_of_files files.items) }
+fn all_rows(alloc: Global, files: Vec<ScannedFile>) -> Result<Rows, NoMemory>
+    ensures { IfOk result (λ rows. rows ≡ rows_of_files files.items) }
 {
-    let mut rows: Vec<Row> = Vec::new(alloc);
+    let mut rows = Rows::new(alloc);
     for file in files {
-        let mut more = file.rows.into_vec();
-        rows.append(&mut more)?;
+        rows.append(file.rows)?;
     }
     Ok(rows)
 }
 
-/// The rows in order.
-pub fn sort_rows(rows: &mut [Row])
-    ensures { Sorts rows.old rows.new }
-{
-    row_order_is_total();
-    rows.sort_unstable_by(|a, b| cmp_rows(a, b));
-}
-
 /// The rows of files in order. The error is want of memory.
-fn sorted_rows(alloc: Global, files: Vec<ScannedFile>) -> Result<Rows, AllocError>
+fn sorted_rows(alloc: Global, files: Vec<ScannedFile>) -> Result<Rows, NoMemory>
     ensures { IfOk result (λ rows. Sorts (rows_of_files files.items) rows) }
 {
-    let mut rows = all_rows(alloc, files)?;
-    sort_rows(&mut rows);
-    Ok(Rows::make(rows))
+    let rows = all_rows(alloc, files)?;
+    sorted(alloc, &rows)
 }
 
 impl Ahead {
@@ -82,7 +72,7 @@ impl Ahead {
     }
 
     /// What was made, or the end for want of memory.
-    pub fn or_no_memory(made: Result<Ahead, AllocError>) -> Ahead
+    pub fn or_no_memory(made: Result<Ahead, NoMemory>) -> Ahead
         ensures { result ≡ or_no_memory made }
     {
         match made {
@@ -92,7 +82,7 @@ impl Ahead {
     }
 
     /// The first of the data files is got next. The error is want of memory.
-    pub fn files(files: Files) -> Result<Ahead, AllocError>
+    pub fn files(files: Files) -> Result<Ahead, NoMemory>
         ensures { IfOk result (λ a. a ≡ ahead_of (Stage.Files files)) }
     {
         let call = match files.left.front() {
@@ -109,7 +99,7 @@ fn make_listing(
     alloc: Global,
     statement: Statement,
     start: u64,
-) -> Result<(Listing, Call), AllocError>
+) -> Result<(Listing, Call), NoMemory>
     ensures statement { IfOk result (λ x. x.0.statement ≡ statement) }
     ensures start { IfOk result (λ x. x.0.start ≡ start) }
     ensures call { IfOk result (λ x. x.1 ≡ call.List log_prefix) }
@@ -127,13 +117,13 @@ fn make_listing(
 /// The load of a version, and of so many after it, with its first call. The error is want of memory.
 fn make_loading(
     alloc: Global,
-    statement: Statement,
+    statement: TableStatement,
     start: u64,
     read: u64,
     at: u64,
     left: u64,
     state: State,
-) -> Result<(Loading, Call), AllocError>
+) -> Result<(Loading, Call), NoMemory>
     requires sum { at + left ≡ read }
     requires bound { read < 2 ^ 20 }
     ensures statement { IfOk result (λ x. x.0.statement ≡ statement) }
@@ -159,7 +149,7 @@ fn make_loading(
 }
 
 /// The put of a data file with its call. The error is want of memory.
-fn make_put(start: u64, read: u64, path: Name, body: Body) -> Result<(DataPut, Call), AllocError>
+fn make_put(start: u64, read: u64, path: Name, body: Body) -> Result<(DataPut, Call), NoMemory>
     requires bound { read < 2 ^ 20 }
     requires outside { (version : ℕ) → path ≢ commit_text version }
     ensures start { IfOk result (λ x. x.0.start ≡ start) }
@@ -197,7 +187,7 @@ impl Plan {
     /// The commit of a version is got, and so many after it.
     fn gets(
         self,
-        statement: Statement,
+        statement: TableStatement,
         start: u64,
         read: u64,
         at: u64,
@@ -316,30 +306,20 @@ impl Plan {
         ensures follows { (es : Entries) (reply : Option AReply) → Rest self result.stage es reply → Cut reply es ⊎ AtFiles reply files.left.items (files.got.items ++ record { path = path; rows = rows } ∷ []) (Selected files.read files.live reply) es }
         ensures falls { left_of self result.stage ≤ length files.left.items }
     {
-        match Text::make(self.alloc, path.as_str()) {
-            Ok(path) => match files.got.push(ScannedFile { path, rows }) {
-                Ok(()) => self.files_from(files),
-                Err(_) => Ahead::refused(Refusal::NoMemory),
-            },
+        let path = path.into_text();
+        match files.got.push(ScannedFile { path, rows }) {
+            Ok(()) => self.files_from(files),
             Err(_) => Ahead::refused(Refusal::NoMemory),
         }
     }
 }
 
 /// The path and the bytes of a data file.
-fn data_file(
-    alloc: Global,
-    plan: &Plan,
-    start: u64,
-    rows: &Rows,
-) -> Result<(Name, Body), AllocError>
+fn data_file(alloc: Global, plan: &Plan, start: u64, rows: &Rows) -> Result<(Name, Body), NoMemory>
     ensures { IfOk result (λ f. (f.0 ≡ data_text plan.now.tag start 0) × (f.1 ≡ text_of_rows rows.now)) }
 {
     let path = data_file_name(alloc, plan.tag, start, 0)?;
-    let text = match write_rows(alloc, rows.as_slice()) {
-        Ok(text) => text,
-        Err(_) => return Err(AllocError),
-    };
+    let text = write_rows(alloc, rows)?;
     Ok((path, Body::make(alloc, text)?))
 }
 
@@ -375,16 +355,15 @@ impl Plan {
     }
 
     /// The table is loaded.
-    fn loaded(self, statement: Statement, start: u64, read: u64, state: State) -> Ahead
+    fn loaded(self, statement: TableStatement, start: u64, read: u64, state: State) -> Ahead
         requires { read < 2 ^ 20 }
         ensures ready { result.call ≡ call_of result.stage }
         ensures follows { (es : Entries) (reply : Option AReply) → Rest self result.stage es reply → AfterLoad self.tag self.limit statement start read reply state es }
         ensures falls { left_of self result.stage ≤ length state.files + 3 * self.limit + 10 }
     {
         match statement {
-            Statement::Table(_) => Ahead::refused(Refusal::TableThere),
-            Statement::Insert { rows } => self.appends(rows, start, read),
-            Statement::Select => self.selects(read, state),
+            TableStatement::Insert { rows } => self.appends(rows, start, read),
+            TableStatement::Select => self.selects(read, state),
         }
     }
 
@@ -450,7 +429,7 @@ impl Plan {
     /// The newest version is loaded, if the commits that are needed are listed.
     pub fn loads(
         self,
-        statement: Statement,
+        statement: TableStatement,
         start: u64,
         listing: &[Listed],
         newest: Option<u64>,

@@ -2,14 +2,13 @@
 ghost use Rattle.std.specs.Prelude.{◌≡◌, IfOk, OnOk};
 ghost use Rattle.std.specs.List.{flat_map};
 ghost use Rattle.snapshot_replay.specs.Table.{applied, snapshot_at};
-ghost use Rattle.txn_machine.specs.Answered.{Sorts};
+ghost use Rattle.row_base.specs.Sorting.{Sorts};
 ghost use Rattle.txn_machine.specs.Texts.{read_commit, read_file};
 ghost use Rattle.txn_machine.specs.Plain.{or_no_change, commit_in, or_no_rows, rows_in, rows_at};
 
-use crate::machine::sort_rows;
 use crate::texts::{Unread, apply_commit, rows_of_file};
 use edge_api::{Body, Name};
-use row_base::{NoMemory, Row, Rows};
+use row_base::{NoMemory, Rows, sorted};
 use snapshot_replay::State;
 use std::alloc::Global;
 use std::collections::VecDeque;
@@ -69,7 +68,7 @@ fn rows_of_text(alloc: Global, text: &Body) -> Result<Rows, NoMemory>
 {
     match rows_of_file(alloc, text) {
         Ok(rows) => Ok(rows),
-        Err(Unread::Bad(_)) => Ok(Rows::make(Vec::new(alloc))),
+        Err(Unread::Bad(_)) => Ok(Rows::new(alloc)),
         Err(Unread::NoMemory) => Err(NoMemory),
     }
 }
@@ -83,21 +82,16 @@ fn rows_under(alloc: Global, files: &[DataFile], path: &Name) -> Result<Rows, No
             return rows_of_text(alloc, &file.text);
         }
     }
-    Ok(Rows::make(Vec::new(alloc)))
+    Ok(Rows::new(alloc))
 }
 
 /// The rows of the files of these paths, one file after another.
-fn rows_of_paths(
-    alloc: Global,
-    files: &[DataFile],
-    paths: VecDeque<Name>,
-) -> Result<Vec<Row>, NoMemory>
-    ensures { IfOk result (λ rows. rows.items ≡ flat_map (rows_in files.now) paths.items) }
+fn rows_of_paths(alloc: Global, files: &[DataFile], paths: VecDeque<Name>) -> Result<Rows, NoMemory>
+    ensures { IfOk result (λ rows. rows ≡ flat_map (rows_in files.now) paths.items) }
 {
-    let mut rows: Vec<Row> = Vec::new(alloc);
+    let mut rows = Rows::new(alloc);
     for path in paths {
-        let mut more = rows_under(alloc, files, &path)?.into_vec();
-        rows.append(&mut more)?;
+        rows.append(rows_under(alloc, files, &path)?)?;
     }
     Ok(rows)
 }
@@ -114,7 +108,6 @@ pub fn replay(
     ensures { IfOk result (λ rows. Sorts (rows_at commits.now files.now version) rows) }
 {
     let state = state_at(alloc, commits, version)?;
-    let mut rows = rows_of_paths(alloc, files, state.paths(alloc)?)?;
-    sort_rows(&mut rows);
-    Ok(Rows::make(rows))
+    let rows = rows_of_paths(alloc, files, state.paths(alloc)?)?;
+    sorted(alloc, &rows)
 }

@@ -2,7 +2,7 @@
 ghost use Rattle.std.specs.Prelude.{◌≡◌, ◌≢◌, ◌+◌, ◌<◌, ◌≤◌, ◌^◌, ℕ, []};
 ghost use Rattle.table_rules.specs.Names.{log_prefix, commit_text};
 
-use crate::CommitJudge;
+use crate::{CommitJudge, TableStatement};
 use committer::Attempts;
 use edge_api::{Body, Call, Name, Tag};
 use op_types::{Reply, Statement};
@@ -41,7 +41,7 @@ pub struct Listing {
 /// A commit is got, and so many after it.
 #[derive(Drop)]
 pub struct Loading {
-    pub statement: Statement,
+    pub statement: TableStatement,
     pub start: u64,
     pub read: u64,
     pub at: u64,

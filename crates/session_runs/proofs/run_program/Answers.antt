@@ -1,15 +1,14 @@
-use Rattle.std.proofs.Common.{rules, refl, ℕ, ◌∙◌, ◌≡◌, ◌≤◌, ◌<◌, [], ◌∷◌, length, sym, subst}
+use Rattle.std.proofs.Common.{rules, refl, ap, List, ℕ, ◌∙◌, ◌≡◌, ◌≤◌, ◌<◌, [], ◌∷◌, length, sym, subst}
 use Rattle.std.specs.Prelude.{map, All}
 use Rattle.op_types.specs.declared.statement.Statement.TheVariants.{Table}
+use Rattle.op_types.specs.declared.reply.Reply.{Reply}
 use Rattle.session_runs.specs.Run.{IsPlain, Runs}
 use Rattle.session_runs.specs.Order.{FollowsItems}
-use Rattle.session_runs.proofs.Order.{seen, start_seen, starts_seen, runs_seen, follows_seen}
+use Rattle.session_runs.proofs.Order.{seen, replies_seen, start_seen, starts_seen, runs_seen, follows_seen}
 use Rattle.session_runs.proofs.Replies.{given, all_replied, all_ready, all_map, begin_long, length-map}
 use Rattle.session_runs.proofs.Laws.{is_serial}
 use Rattle.line_texts.proofs.Laws.{rows_read_back}
-use Rattle.table_laws.proofs.Folded.{each_version_is_folded}
-use Rattle.table_laws.proofs.Refused.{each_refusal_commits_nothing}
-use Rattle.table_laws.proofs.Serial.{each_version_is_serial, each_statement_commits_once, first_version_is_empty, each_commit_lands, each_reply_committed, each_reply_read}
+use Rattle.table_laws.proofs.Run.{each_run_is_lawful}
 use Rattle.session_runs.proofs.run_program.Goals as goal
 
 pub run_all-requires-clause-others : goal.run_all-requires-clause-others
@@ -33,6 +32,7 @@ returns-clause-follows g c =
     let j = g.W.World.journal in
     let ran = c.run_all in
     let order = ran.ensures.order in
+    let is : c.give_replies.new.replies.items ≡ given ran.new.first ∷ map given ran.new.others.items = search rules in
     record {
       middle = order.middle;
       first = seen c.in_ok-first.first;
@@ -43,6 +43,7 @@ returns-clause-follows g c =
       others_start = starts_seen c.args.limit 1 (map (λ s. s.items) c.args.sessions.items) c.in_ok-others.others.items c.in_ok-others.ensures;
       first_runs = runs_seen (j c.args.world.now) order.middle c.in_ok-first.first ran.new.first order.first_runs;
       others_follow = follows_seen c.args.items.now order.middle (j ran.new.world) c.in_ok-others.others.items ran.new.others.items order.others_follow;
+      replied = is ∙ ap (λ (rs : List (List Reply)). given ran.new.first ∷ rs) (sym (replies_seen ran.new.others.items));
     }
 
 pub run_all-requires-clause-items : goal.run_all-requires-clause-items
@@ -61,5 +62,5 @@ returns-clause-serial g c =
     let j = g.W.World.journal in
     let lists = map (λ s. s.items) c.args.sessions.items in
     let few : length lists ≤ 64 = subst (λ (n : ℕ). n ≤ 64) (sym (length-map (λ s. s.items) c.args.sessions.items)) c.requires.sessions in
-    is_serial each_version_is_serial each_statement_commits_once first_version_is_empty each_commit_lands each_reply_committed each_reply_read each_version_is_folded each_refusal_commits_nothing rows_read_back (record { table = c.args.table; sessions = lists; limit = c.args.limit; items = c.args.items.now }) (j c.args.world.now) (j c.run_all.new.world)
+    is_serial each_run_is_lawful rows_read_back (record { table = c.args.table; sessions = lists; limit = c.args.limit; items = c.args.items.now }) (j c.args.world.now) (j c.run_all.new.world)
     c.give_replies.new.replies.items c.requires.few few (all_map (λ s. s.items) (λ s. length s ≤ 4096) c.args.sessions.items c.requires.statements) (all_map (λ s. s.items) (λ s. All IsPlain s) c.args.sessions.items c.requires.plain) (returns-clause-runs g c)

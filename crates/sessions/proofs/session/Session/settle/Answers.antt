@@ -1,10 +1,12 @@
-use Rattle.std.proofs.Common.{rules, ◌≡◌, ◌≤◌, ◌+◌, ◌*◌, ℕ, length, Option, Some, None, sym, ◌∙◌, ap, subst, arith}
-use Rattle.std.specs.Prelude.{vec_capacity}
+use Rattle.std.proofs.Common.{rules, inr, ◌≡◌, ◌≤◌, ◌+◌, ◌*◌, ℕ, length, Option, Some, None, sym, ◌∙◌, ap, subst, arith}
+use Rattle.std.specs.Prelude.{vec_capacity, IfSome}
+use Rattle.edge_api.specs.declared.actor.Stage.TheVariants as place
+use Rattle.txn_machine.specs.Place.{place_of}
 use Rattle.txn_machine.specs.declared.txn.Txn.{Txn}
 use Rattle.txn_machine.specs.Machine.{left_of}
 use Rattle.sessions.specs.Session.{later_plans, RestBy, count_now, left_now}
 use Rattle.sessions.proofs.Sessions.{begun_left}
-use Rattle.sessions.proofs.Stands.{next_is, goes_further, goes_on_none}
+use Rattle.sessions.proofs.Stands.{next_is, ended_further, counted_further}
 use Rattle.sessions.proofs.session.Session.settle.Goals as goal
 
 pub turns-preserved : goal.turns-preserved
@@ -26,8 +28,8 @@ turns-preserved c =
       current = e.current ∙ i.current;
       room = subst (λ (n : Option Txn). length new.replies.items + count_now n + length new.later.items ≤ vec_capacity new.replies) is e.room;
       numbers = e.numbers;
-      counted = (fresh.number, fresh.most);
-      goes_on = goes_further c.args.txn c.turns.txn c.in-Some.next c.turns.self.next new.next i.counted.0 i.goes_on fresh;
+      counted = counted_further c.turns.txn c.in-Some.next c.turns.self.replies.items new.replies.items c.turns.self.next new.next i.counted e.replied fresh;
+      goes_on = inr (ended_further c.args.txn c.turns.txn c.args.self.now.replies.items c.turns.self.replies.items new.replies.items i.goes_on e.replied, fresh.stands);
       left = omega (arith, whole, i.left, now);
       turns = λ killed es all h. i.turns killed es all (e.turns killed es all (subst (λ (n : Option Txn). RestBy killed new.replies.items n (later_plans new) es all) (sym is) h));
     }
@@ -41,4 +43,12 @@ returns-in-None-clause-settles c killed es all h =
     i.turns killed es all (e.turns killed es all (subst (λ (n : Option Txn). RestBy killed new.replies.items n (later_plans new) es all) (e.current ∙ i.current ∙ sym none) h))
 
 pub returns-in-None-clause-goes_on : goal.returns-in-None-clause-goes_on
-returns-in-None-clause-goes_on c = goes_on_none c.args.txn c.turn.new.self.current (c.turn.ensures.current ∙ c.turns.invariant.current)
+returns-in-None-clause-goes_on c =
+    let i = c.turns.invariant in
+    let e = c.turn.ensures in
+    let new = c.turn.new.self in
+    let none : new.current ≡ None = e.current ∙ i.current in
+    inr (
+      ended_further c.args.txn c.turns.txn c.args.self.now.replies.items c.turns.self.replies.items new.replies.items i.goes_on e.replied,
+      subst (λ (n : Option Txn). IfSome n (λ t. place_of t.stage ≡ place.Between)) (sym none) tt,
+    )

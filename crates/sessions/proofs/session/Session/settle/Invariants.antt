@@ -17,8 +17,8 @@ invariant-turns l = record {
   current : l.self.current ≡ None;
   room : length l.self.replies.items + 1 + length l.self.later.items ≤ vec_capacity l.self.replies;
   numbers : l.self.next + length l.self.later.items < 4294967296;
-  counted : IsCounted (Some l.txn) l.self.next;
-  goes_on : GoesOnBy l.initial.txn l.txn;
+  counted : IsCounted (Some l.txn) (length l.self.replies.items) l.self.next;
+  goes_on : GoesOnBy l.initial.txn l.initial.self.replies.items l.txn l.self.replies.items;
   left : length l.self.later.items * (3 * l.initial.self.limit + 2097201) + left_of l.txn.plan l.txn.stage ≤ length l.initial.self.later.items * (3 * l.initial.self.limit + 2097201) + left_of l.initial.txn.plan l.initial.txn.stage;
   turns : (killed : Bool) (es : Entries) (all : List Reply) → RestBy killed l.self.replies.items (Some l.txn) (later_plans l.self) es all → RestBy killed l.initial.self.replies.items (Some l.initial.txn) (later_plans l.initial.self) es all;
 }

@@ -2,7 +2,7 @@ use Rattle.std.proofs.Common.{rules, ◌≡◌, ◌∙◌, ℕ, Option, Some, le
 use Rattle.txn_machine.specs.declared.txn.Txn.{Txn}
 use Rattle.sessions.specs.Session.{later_plans, plans_from, Begins, Stops, IsReadyNow}
 use Rattle.sessions.proofs.Sessions.{first_answered}
-use Rattle.sessions.proofs.Stands.{next_is, goes_on_still, fresh_now}
+use Rattle.sessions.proofs.Stands.{next_is, outcome, fresh_now}
 use Rattle.sessions.proofs.session.Session.start.Goals as goal
 
 pub returns-in-Some-clause-starts : goal.returns-in-Some-clause-starts
@@ -23,5 +23,7 @@ returns-in-Some-clause-fresh c =
     let is : c.begin-first.result ≡ Some txn = search rules in
     let actor : new.actor ≡ self.actor = c.check.ensures.actor ∙ c.settle.ensures.actor in
     let ready : IsReadyNow new.current self.actor new.later.items = subst (λ (n : ℕ). IsReadyNow new.current n new.later.items) actor c.check.ensures.ready.settled.now in
-    let on = goes_on_still txn c.settle.new.self.current new.current c.check.ensures.now c.settle.ensures.goes_on in
-    fresh_now txn new.current self.actor self.next c.begin-first.new.next new.later.items c.requires.first (next_is c.begin-first.result txn self.next c.begin-first.new.next is c.begin-first.ensures.fresh) on ready
+    let settled = c.settle.new.self in
+    let on = outcome txn self.replies.items settled.replies.items new.replies.items settled.current new.current c.settle.ensures.goes_on c.check.ensures.now in
+    fresh_now txn new.current self.replies.items new.replies.items self.actor self.next c.begin-first.new.next new.next new.later.items (next_is c.begin-first.result txn self.next c.begin-first.new.next is c.begin-first.ensures.fresh)
+    on ready c.check.ensures.ready.settled.counted

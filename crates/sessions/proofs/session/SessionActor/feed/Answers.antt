@@ -1,8 +1,9 @@
-use Rattle.std.proofs.Common.{rules, ◌≡◌, ◌∙◌, ℕ, ◌≤◌, ◌+◌, ◌*◌, length, Some, subst, arith}
+use Rattle.std.proofs.Common.{rules, ◌≡◌, ◌∙◌, ap, ℕ, ◌≤◌, ◌+◌, ◌*◌, length, Some, subst, arith}
+use Rattle.edge_api.specs.declared.actor.Fed.TheVariants as fed
 use Rattle.txn_machine.specs.Machine.{left_of}
-use Rattle.sessions.specs.Session.{left, IsReadyNow}
+use Rattle.sessions.specs.Session.{left, count_of, IsReadyNow}
 use Rattle.sessions.proofs.Sessions.{asked, event_goes, event_falls, has_calls}
-use Rattle.sessions.proofs.Stands.{event_counted, event_led, goes_on_still}
+use Rattle.sessions.proofs.Stands.{event_counted, event_led, heard_not}
 use Rattle.sessions.proofs.session.SessionActor.feed.Goals as goal
 
 pub settle-requires-clause-ready : goal.settle-requires-clause-ready
@@ -37,9 +38,10 @@ returns-in-Some-clause-fed c old tag call asks =
     let most : left c.count.new.self ≤ length self.later.items * (3 * self.limit + 2097201) + left_of t.plan t.stage = omega (arith, c.count.ensures.falls, c.settle.ensures.falls) in
     let actor : c.count.new.self.actor ≡ old.actor = c.count.ensures.actor ∙ c.settle.ensures.actor ∙ asks.actor in
     let ready : IsReadyNow c.count.new.self.current old.actor c.count.new.self.later.items = subst (λ (n : ℕ). IsReadyNow c.count.new.self.current n c.count.new.self.later.items) actor c.count.ensures.ready.settled.now in
-    let on = goes_on_still t new.current c.count.new.self.current c.count.ensures.now c.settle.ensures.goes_on in (
+    let kept : c.args.answer ≡ fed.NoMemory → (c.count.new.self.current ≡ new.current) × (c.count.new.self.replies.items ≡ new.replies.items) =
+    λ memory. c.count.ensures.kept (heard_not c.is_answer-heard.result (c.is_answer-heard.ensures ∙ ap count_of memory)) in (
       record {
-        led = event_led old tag call self o.before c.in-Some.txn t c.args.answer c.count.new.self.current c.count.new.self.later.items asks o.is o.asks f.0 f.1 ready on;
+        led = event_led old tag call self o.before c.in-Some.txn t c.args.answer new c.count.new.self asks o.is o.asks f.0 f.1 ready c.count.ensures.ready.settled.counted c.settle.ensures.goes_on c.count.ensures.now kept;
         leads = λ es all h. event_goes old tag call self new o.before t c.args.answer _ es all asks o.is f.0 c.settle.ensures.kill c.is_answer-heard.ensures (λ killed rest. c.settle.ensures.settles killed es all rest) (c.count.ensures.remains es all h);
       },
       event_falls old tag call self c.count.new.self o.before t asks o.is f.1 most,

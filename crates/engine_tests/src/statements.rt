@@ -1,0 +1,201 @@
+//! Statements driven call by call over a store in memory, with the calls and the replies worked out by hand.
+ghost use Rattle.std.specs.Prelude.{◌≡◌, IfOk};
+ghost use Rattle.edge_api.specs.Actor.{IsFit};
+ghost use Rattle.txn_machine.specs.Txn.{IsReady};
+
+use edge_api::{Actor, Body, Call, Fed, MemWorld, Name, Stage as Place, Step, Tag, World};
+use op_types::{Refusal, Reply, Statement, TableSpec};
+use row_base::{Column, Datum, Items, Kind, NoMemory, Rows, Text};
+use std::alloc::{AllocError, Global};
+use std::test::Fail;
+use table_rules::{LogName, read_log_name};
+use txn_machine::{DataFile, Finish, Txn, replay};
+
+/// Notes a name: a commit by its version.
+fn note_name(text: &mut String, word: &str, name: &Name) -> Result<(), AllocError> {
+    match read_log_name(name) {
+        LogName::Commit(version) => write!(text, "{word} {version}; "),
+        LogName::Outside => write!(text, "{word} data; "),
+        _ => text.push_str("another; "),
+    }
+}
+
+/// Notes a call, with a mark where the statement stands before a commit put, or between two statements.
+fn note(text: &mut String, place: Place, call: &Call) -> Result<(), AllocError> {
+    match place {
+        Place::Between => text.push_str("|")?,
+        Place::Attempt => text.push_str("!")?,
+        Place::Running => {}
+        Place::Done => text.push_str("done")?,
+    }
+    match call {
+        Call::Now => text.push_str("now; "),
+        Call::List(_) => text.push_str("list; "),
+        Call::Get(name) => note_name(text, "get", name),
+        Call::PutNew(name, _) => note_name(text, "put", name),
+        _ => text.push_str("another; "),
+    }
+}
+
+/// Makes a call of the store.
+fn made(world: &mut MemWorld, tag: Tag, call: Call) -> Fed
+    ensures { IsFit call result }
+{
+    match world.call(tag, call) {
+        Ok(answer) => Fed::Answer(answer),
+        Err(_) => Fed::NoMemory,
+    }
+}
+
+/// Makes the next call, if there is one.
+fn turn(world: &mut MemWorld, txn: &mut Txn, text: &mut String) -> Result<(), AllocError>
+    requires { IsReady txn.old }
+    ensures { IfOk result (λ _. IsReady txn.new) }
+{
+    let place = txn.stage();
+    let Step::Call(tag, call) = txn.next() else {
+        return Ok(());
+    };
+    note(text, place, &call)?;
+    let input = made(world, tag, call);
+    txn.feed(input);
+    Ok(())
+}
+
+/// Notes rows of numbers.
+fn note_rows(text: &mut String, rows: &Rows) -> Result<(), AllocError> {
+    for row in rows.iter() {
+        for datum in row {
+            match datum {
+                Datum::Long(n) => write!(text, " {n}")?,
+                _ => text.push_str(" another")?,
+            }
+        }
+    }
+    Ok(())
+}
+
+fn note_reply(text: &mut String, reply: &Reply) -> Result<(), AllocError> {
+    match reply {
+        Reply::Created => text.push_str("created"),
+        Reply::Committed {
+            version,
+            read,
+            attempts,
+            ..
+        } => write!(text, "committed {version} from {read} by {attempts}"),
+        Reply::Rows {
+            version,
+            rows,
+            files_read,
+            files_live,
+        } => {
+            write!(text, "rows of {version} in {files_read} of {files_live}:")?;
+            note_rows(text, rows)
+        }
+        Reply::Refused(Refusal::NoTable) => text.push_str("no table"),
+        _ => text.push_str("another"),
+    }
+}
+
+/// The calls of a statement, of which there are twelve at most, and its reply.
+fn run(
+    alloc: Global,
+    world: &mut MemWorld,
+    statement: u32,
+    what: Statement,
+) -> Result<String, AllocError> {
+    let mut text = String::new(alloc);
+    let mut txn = Txn::new(
+        alloc,
+        Tag {
+            actor: 1,
+            statement,
+        },
+        what,
+        10,
+    );
+    'turns: for _ in 0..12 {
+        turn(world, &mut txn, &mut text)?;
+    }
+    if txn.pending.is_some() {
+        text.push_str("open")?;
+    } else {
+        let Finish { reply } = txn.finish();
+        note_reply(&mut text, &reply)?;
+    }
+    Ok(text)
+}
+
+/// Makes a table of one column of numbers.
+fn table(alloc: Global) -> Result<Statement, NoMemory> {
+    let mut columns = Vec::new(alloc);
+    columns.push(Column {
+        name: Text::make(alloc, "id")?,
+        kind: Kind::Long,
+        nullable: false,
+    })?;
+    let columns = Items::from_vec(columns);
+    Ok(Statement::Table(TableSpec { columns }))
+}
+
+/// Inserts a row for each number.
+fn insert(alloc: Global, numbers: &[i64]) -> Result<Statement, NoMemory> {
+    let mut rows = Rows::new(alloc);
+    let mut row = Vec::new(alloc);
+    for n in numbers {
+        row.push(Datum::Long(*n))?;
+        rows.push_from(&mut row)?;
+    }
+    Ok(Statement::Insert { rows })
+}
+
+/// The rows of a version by what was put, as text.
+fn replayed(alloc: Global, world: &MemWorld, version: usize) -> Result<String, NoMemory> {
+    let mut commits: Vec<Body> = Vec::new(alloc);
+    let mut files: Vec<DataFile> = Vec::new(alloc);
+    for entry in world.journal() {
+        if let Call::PutNew(name, body) = &entry.call {
+            match read_log_name(name) {
+                LogName::Commit(_) => commits.push(body.copy()?)?,
+                _ => files.push(DataFile {
+                    path: name.copy()?,
+                    text: body.copy()?,
+                })?,
+            }
+        }
+    }
+    let mut text = String::new(alloc);
+    let rows = replay(alloc, commits.as_slice(), files.as_slice(), version)?;
+    note_rows(&mut text, &rows)?;
+    Ok(text)
+}
+
+#[test]
+fn rows_are_inserted_and_selected(rt: HostRuntime) -> Result<(), Fail> {
+    let alloc = rt.alloc();
+    let mut world = MemWorld::new(alloc, 1000);
+    let early = run(alloc, &mut world, 1, Statement::Select)?;
+    assert_eq!(rt; early.as_str(), "|now; list; no table");
+    let made = run(alloc, &mut world, 2, table(alloc)?)?;
+    assert_eq!(rt; made.as_str(), "|now; list; now; !put 0; created");
+    let first = run(alloc, &mut world, 3, insert(alloc, &[3, 1])?)?;
+    assert_eq!(rt;
+        first.as_str(),
+        "|now; list; get 0; put data; now; !put 1; committed 1 from 0 by 1"
+    );
+    let second = run(alloc, &mut world, 4, insert(alloc, &[2, 1])?)?;
+    assert_eq!(rt;
+        second.as_str(),
+        "|now; list; get 0; get 1; put data; now; !put 2; committed 2 from 1 by 1"
+    );
+    let all = run(alloc, &mut world, 5, Statement::Select)?;
+    assert_eq!(rt;
+        all.as_str(),
+        "|now; list; get 0; get 1; get 2; get data; get data; rows of 2 in 2 of 2: 1 1 2 3"
+    );
+    for (version, want) in [(0, ""), (1, " 1 3"), (2, " 1 1 2 3")] {
+        assert_eq!(rt; replayed(alloc, &world, version)?.as_str(), want);
+    }
+    Ok(())
+}

@@ -1,0 +1,126 @@
+-- What stands at each moment of a run, and what becomes of the put of a commit there.
+use Rattle.std.proofs.Common.{◌≡◌, ◌≢◌, ◌⊎◌, inl, inr, ℕ, ◌<◌, ◌^◌, Bool, true, false, List, [], ◌∷◌, ◌++◌, refl, sym, ◌∙◌, ap, subst}
+use Rattle.std.proofs.lemmas.List.{append-nil, append_assoc}
+use Rattle.std.specs.Prelude.{Option, Some, None}
+use Rattle.edge_api.specs.declared.call.Tag.{Tag}
+use Rattle.edge_api.specs.declared.call.Call.{Call}
+use Rattle.edge_api.specs.declared.call.Call.TheVariants.{PutNew}
+use Rattle.edge_api.specs.declared.call.Answer.{Answer}
+use Rattle.edge_api.specs.declared.call.Answer.TheVariants.{Fault, Body, Missing, Stored, Taken, Names, Gone, Time, Waited}
+use Rattle.edge_api.specs.declared.call.Object.{Object}
+use Rattle.edge_api.specs.Journal.{Objects, Moment, IsLegal, Answers, answer_of, after_moment, entries_of, object_at, put_new_answer}
+use Rattle.op_types.specs.declared.statement.Statement.{Statement}
+use Rattle.op_types.specs.declared.reply.Reply.{Reply}
+use Rattle.table_rules.specs.Names.{commit_text}
+use Rattle.table_rules.specs.Told.{IsTag}
+use Rattle.call_phases.specs.Phases.{Entries}
+use Rattle.txn_machine.specs.Answered.{Kept}
+use Rattle.actor_core.specs.Entries.{own}
+use Rattle.table_laws.specs.Levels.{Level, Serializable}
+use Rattle.table_laws.specs.History.{Put, put_under, puts_of, puts_at, put_if_free, if_done, history}
+use Rattle.table_laws.specs.Runs.{SessionKnows, IsRun}
+use Rattle.table_laws.specs.Laws.{CommitPut, Wins, Loses, Fails, CommitPutsAreDecided}
+use Rattle.table_laws.proofs.Lawful.{MayPut, LawfulBy}
+use Rattle.table_laws.proofs.Puts.{body_at}
+use Rattle.table_laws.proofs.Tries.{put_under-behind}
+use Rattle.table_laws.proofs.Journals.{Stands, Keeps, nothing_stands, lawful_next, keeps_rest, call_step, not_own, put_of_body}
+use Rattle.table_laws.proofs.Serial.{keeps_answered}
+
+module _ (level : Level) (K : Tag → List ℕ → List ℕ → Type 0) (script : Tag → Option Statement) (replies : Tag → Option Reply) (tags : (tag : Tag) (statement : Statement) → script tag ≡ Some statement → IsTag tag) where
+  -- what stands after some moments, with the rest still to come
+  pub record StandsAt (first : Objects) (puts : List Put) (before rest : List Moment) : Type 0 where
+    pub past : Entries
+    pub os : Objects
+    pub clock : ℕ
+    pub stands : Stands level K script replies tags past os (puts ++ history first before)
+    pub legal : IsLegal os clock rest
+    pub keeps : Keeps level K script replies tags past (entries_of rest)
+    pub whole : history first (before ++ rest) ≡ history first before ++ history os rest
+
+  stands_at : (before rest : List Moment) (past : Entries) (os : Objects) (ps : List Put) (clock : ℕ) → Stands level K script replies tags past os ps → IsLegal os clock (before ++ rest)
+      → Keeps level K script replies tags past (entries_of (before ++ rest)) → StandsAt os ps before rest
+  stands_at [] rest past os ps clock s legal keeps =
+      record { past = past; os = os; clock = clock; stands = subst (Stands level K script replies tags past os) (sym (append-nil ps)) s; legal = legal; keeps = keeps; whole = refl }
+  stands_at (m ∷ before) rest past os ps clock s legal keeps =
+      let next = lawful_next level K script replies tags past m.entry (entries_of (before ++ rest)) keeps in
+      let here = call_step level K script replies tags past os ps s m.entry.tag m.entry.call m.entry.answer m.clock m.took_effect next.0 next.1 next.2 legal.2 in
+      let r = stands_at before rest (m.entry ∷ past) (after_moment os m) (ps ++ puts_at os m) m.clock here legal.3 (keeps_rest level K script replies tags past m.entry (entries_of (before ++ rest)) keeps) in
+      record {
+        past = r.past;
+        os = r.os;
+        clock = r.clock;
+        stands = subst (Stands level K script replies tags r.past r.os) (append_assoc ps (puts_at os m) (history (after_moment os m) before)) r.stands;
+        legal = r.legal;
+        keeps = r.keeps;
+        whole = ap (λ (l : List Put). puts_at os m ++ l) r.whole ∙ sym (append_assoc (puts_at os m) (history (after_moment os m) before) (history r.os rest));
+      }
+
+  -- the put of a commit at a moment
+  module _ (before rest : List Moment) (m : Moment) (v : ℕ) (body : List ℕ) (is : m.entry.call ≡ PutNew (commit_text v) body) (r : StandsAt [] [] before (m ∷ rest)) where
+    abbrev the_put : Put
+    the_put = record { tag = m.entry.tag; name = commit_text v; body = body; at = m.clock }
+
+    abbrev Decided : Type 0
+    Decided = CommitPut (history [] before) (history [] (before ++ m ∷ rest)) v body m
+
+    right : Answers m.entry.answer (put_new_answer (object_at r.os (commit_text v)))
+    right = subst (λ (c : Call). Answers m.entry.answer (answer_of r.os m.clock c)) is (r.legal).2
+
+    put_here : object_at r.os (commit_text v) ≡ None → puts_of r.os m.entry.tag m.clock m.entry.call ≡ the_put ∷ []
+    put_here free = ap (λ (c : Call). puts_of r.os m.entry.tag m.clock c) is ∙ ap (λ (o : Option Object). put_if_free o the_put) free
+
+    wins : object_at r.os (commit_text v) ≡ None → put_under (history [] before) (commit_text v) ≡ None → puts_at r.os m ≡ the_put ∷ [] → (m.entry.answer ≡ Stored) ⊎ (m.entry.answer ≡ Fault) → Decided
+    wins object free puts answer =
+        let all : history [] (before ++ m ∷ rest) ≡ history [] before ++ the_put ∷ history (after_moment r.os m) rest = r.whole ∙ ap (λ (l : List Put). history [] before ++ (l ++ history (after_moment r.os m) rest)) puts in
+        Wins free (ap (λ (l : List Put). put_under l (commit_text v)) all ∙ put_under-behind (history [] before) (history (after_moment r.os m) rest) the_put (commit_text v) refl free) answer
+
+    at_free : (a : Answer) → m.entry.answer ≡ a → Answers a Stored → object_at r.os (commit_text v) ≡ None → put_under (history [] before) (commit_text v) ≡ None → Decided
+    at_free Stored at answers object free = wins object free (ap (λ (a : Answer). if_done a m.took_effect (puts_of r.os m.entry.tag m.clock m.entry.call)) at ∙ put_here object) (inl at)
+    at_free Fault at answers object free = by m.took_effect refl
+      where
+        faulted : (u : Bool) → m.took_effect ≡ u → puts_at r.os m ≡ if_done Fault u (puts_of r.os m.entry.tag m.clock m.entry.call)
+        faulted u took =
+            ap (λ (a : Answer). if_done a m.took_effect (puts_of r.os m.entry.tag m.clock m.entry.call)) at ∙ ap (λ (b : Bool). if_done Fault b (puts_of r.os m.entry.tag m.clock m.entry.call)) took
+
+        by : (u : Bool) → m.took_effect ≡ u → Decided
+        by true took = wins object free (faulted true took ∙ put_here object) (inr at)
+        by false took = Fails free at took
+    at_free (Body b) at answers object free = cc
+    at_free Missing at answers object free = cc
+    at_free Taken at answers object free = cc
+    at_free (Names l) at answers object free = cc
+    at_free Gone at answers object free = cc
+    at_free (Time t) at answers object free = cc
+    at_free Waited at answers object free = cc
+
+    taken_or_fault : (a : Answer) → Answers a Taken → (a ≡ Taken) ⊎ (a ≡ Fault)
+    taken_or_fault Fault answers = inr refl
+    taken_or_fault Taken answers = inl refl
+    taken_or_fault (Body b) answers = cc
+    taken_or_fault Missing answers = cc
+    taken_or_fault Stored answers = cc
+    taken_or_fault (Names l) answers = cc
+    taken_or_fault Gone answers = cc
+    taken_or_fault (Time t) answers = cc
+    taken_or_fault Waited answers = cc
+
+    pub decided : Decided
+    decided = by (object_at r.os (commit_text v)) refl right
+      where
+        by : (o : Option Object) → object_at r.os (commit_text v) ≡ o → Answers m.entry.answer (put_new_answer o) → Decided
+        by None at answers = at_free m.entry.answer refl answers at ((r.stands).logs v at)
+        by (Some o) at answers =
+            let next = lawful_next level K script replies tags r.past m.entry (entries_of rest) r.keeps in
+            let may : MayPut level (K m.entry.tag) m.entry.tag next.0 (own m.entry.tag r.past) (commit_text v) body = subst (LawfulBy level (K m.entry.tag) m.entry.tag next.0 (own m.entry.tag r.past)) is next.2 in
+            let winner = put_of_body (put_under (history [] before) (commit_text v)) o.body ((r.stands).agree (commit_text v) o.body (ap body_at at)) in
+            Loses winner.0 winner.1 (λ same. not_own level K script replies tags r.past r.os (history [] before) r.stands m.entry.tag next.0 next.1 (commit_text v) body may v refl winner.0 winner.1 same)
+            (taken_or_fault m.entry.answer answers)
+
+pub puts_at_moments : (limit : ℕ) (script : Tag → Option Statement) (kepts : Tag → Option Kept) (replies : Tag → Option Reply) (moments : List Moment) → IsLegal [] 0 moments → IsRun limit script kepts replies (entries_of moments) → CommitPutsAreDecided moments
+puts_at_moments limit script kepts replies moments legal run before rest m v body parts small is =
+    let K = SessionKnows (entries_of moments) in
+    let keeps = keeps_answered Serializable limit script kepts replies moments legal run in
+    let here = stands_at Serializable K script replies run.tags before (m ∷ rest) [] [] [] 0 (nothing_stands Serializable K script replies run.tags) (subst (IsLegal [] 0) parts legal)
+    (subst (λ (ms : List Moment). Keeps Serializable K script replies run.tags [] (entries_of ms)) parts keeps) in
+    let found = decided Serializable K script replies run.tags before rest m v body is here in
+    subst (λ (ms : List Moment). CommitPut (history [] before) (history [] ms) v body m) (sym parts) found
