@@ -1,4 +1,4 @@
-use Rattle.std.proofs.Common.{◌≡◌, ◌++◌, ◌∙◌, ℕ, List, ap}
+use Rattle.std.proofs.Common.{◌++◌, ◌∙◌, ℕ, List, ap}
 use Rattle.row_base.specs.declared.row.Datum.{Datum}
 use Rattle.workbench.specs.Tables.{row_of}
 use Rattle.workbench.proofs.Rows.{rows_more}

@@ -11,7 +11,7 @@ returns-in_ok-rows_of-in-Rows-clause-ok c =
     let made = c.in_ok-rows_of-in-Rows in
     let long : length made.field-0 ≡ c.args.count = ap (λ (rows : List (List Datum)). length rows) made.ensures ∙ length-rows_of c.args.table c.args.count in
     let asked : answer_of c.args.step c.args.table c.args.count ≡ c.args.count = ap (λ (step : Step). answer_of step c.args.table c.args.count) c.in-Rows.is in
-    omega (arith, long, asked, c.len.ensures)
+    omega (arith, long, asked, c.len-in-Rows.ensures)
 
 pub returns-in_ok-count_rows-in-Read-clause-ok : goal.returns-in_ok-count_rows-in-Read-clause-ok
 returns-in_ok-count_rows-in-Read-clause-ok c =
