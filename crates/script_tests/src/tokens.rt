@@ -5,9 +5,10 @@ use std::alloc::Global;
 /// Whether the line spells one token, a text with these bytes.
 fn is_text(alloc: Global, line: &[u8], bytes: &[u8]) -> bool {
     match tokens_of(alloc, line) {
-        Ok(tokens) => {
-            matches!(tokens.as_slice(), [Token::Text(text)] if text.as_slice() == bytes)
-        }
+        Ok(tokens) => match tokens.as_slice() {
+            [token] => matches!(token, Token::Text(text) if text.as_slice() == bytes),
+            _ => false,
+        },
         Err(_) => false,
     }
 }
@@ -15,7 +16,10 @@ fn is_text(alloc: Global, line: &[u8], bytes: &[u8]) -> bool {
 /// Whether the line spells one token, this number.
 fn is_number(alloc: Global, line: &[u8], number: i64) -> bool {
     match tokens_of(alloc, line) {
-        Ok(tokens) => matches!(tokens.as_slice(), [Token::Number(found)] if *found == number),
+        Ok(tokens) => match tokens.as_slice() {
+            [token] => matches!(token, Token::Number(found) if *found == number),
+            _ => false,
+        },
         Err(_) => false,
     }
 }
