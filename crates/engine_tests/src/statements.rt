@@ -171,31 +171,81 @@ fn replayed(alloc: Global, world: &MemWorld, version: usize) -> Result<String, N
     Ok(text)
 }
 
+/// A statement to be made.
+#[derive(Clone, Copy)]
+enum What {
+    Table,
+    Insert(&'static [i64]),
+    Select,
+}
+
+fn statement(alloc: Global, what: What) -> Result<Statement, NoMemory> {
+    match what {
+        What::Table => table(alloc),
+        What::Insert(numbers) => insert(alloc, numbers),
+        What::Select => Ok(Statement::Select),
+    }
+}
+
+/// Whether the calls and the reply of a statement are these.
+fn is_answered(
+    alloc: Global,
+    world: &mut MemWorld,
+    number: u32,
+    what: What,
+    want: &str,
+) -> Result<bool, NoMemory> {
+    let told = run(alloc, world, number, statement(alloc, what)?)?;
+    Ok(told.as_str() == want)
+}
+
+/// Whether the rows of a version are these by what was put.
+fn is_replayed(
+    alloc: Global,
+    world: &MemWorld,
+    version: usize,
+    want: &str,
+) -> Result<bool, NoMemory> {
+    let rows = replayed(alloc, world, version)?;
+    Ok(rows.as_str() == want)
+}
+
+/// Statements one after another, each with its calls and its reply.
+const STATEMENTS: [(What, &str); 5] = [
+    (What::Select, "|now; list; no table"),
+    (What::Table, "|now; list; now; !put 0; created"),
+    (
+        What::Insert(&[3, 1]),
+        "|now; list; get 0; put data; now; !put 1; committed 1 from 0 by 1",
+    ),
+    (
+        What::Insert(&[2, 1]),
+        "|now; list; get 0; get 1; put data; now; !put 2; committed 2 from 1 by 1",
+    ),
+    (
+        What::Select,
+        "|now; list; get 0; get 1; get 2; get data; get data; rows of 2 in 2 of 2: 1 1 2 3",
+    ),
+];
+
+/// Makes the statements. Whether each has its calls and its reply.
+fn are_answered(alloc: Global, world: &mut MemWorld) -> Result<bool, NoMemory> {
+    let mut all = true;
+    let mut number: u32 = 1;
+    for (what, want) in STATEMENTS {
+        all = is_answered(alloc, world, number, what, want)? && all;
+        number = number.saturating_add(1);
+    }
+    Ok(all)
+}
+
 #[test]
 fn rows_are_inserted_and_selected(rt: HostRuntime) -> Result<(), Fail> {
     let alloc = rt.alloc();
     let mut world = MemWorld::new(alloc, 1000);
-    let early = run(alloc, &mut world, 1, Statement::Select)?;
-    assert_eq!(rt; early.as_str(), "|now; list; no table");
-    let made = run(alloc, &mut world, 2, table(alloc)?)?;
-    assert_eq!(rt; made.as_str(), "|now; list; now; !put 0; created");
-    let first = run(alloc, &mut world, 3, insert(alloc, &[3, 1])?)?;
-    assert_eq!(rt;
-        first.as_str(),
-        "|now; list; get 0; put data; now; !put 1; committed 1 from 0 by 1"
-    );
-    let second = run(alloc, &mut world, 4, insert(alloc, &[2, 1])?)?;
-    assert_eq!(rt;
-        second.as_str(),
-        "|now; list; get 0; get 1; put data; now; !put 2; committed 2 from 1 by 1"
-    );
-    let all = run(alloc, &mut world, 5, Statement::Select)?;
-    assert_eq!(rt;
-        all.as_str(),
-        "|now; list; get 0; get 1; get 2; get data; get data; rows of 2 in 2 of 2: 1 1 2 3"
-    );
+    assert!(rt; are_answered(alloc, &mut world)?);
     for (version, want) in [(0, ""), (1, " 1 3"), (2, " 1 1 2 3")] {
-        assert_eq!(rt; replayed(alloc, &world, version)?.as_str(), want);
+        assert!(rt; is_replayed(alloc, &world, version, want)?, "of {want}");
     }
     Ok(())
 }
