@@ -98,32 +98,50 @@ fn note_reply(text: &mut String, reply: &Reply) -> Result<(), AllocError> {
     }
 }
 
-/// The calls of a statement, of which there are twelve at most, and its reply.
+/// Makes the calls of a statement, of which there are twelve at most.
+fn turns(world: &mut MemWorld, txn: &mut Txn, text: &mut String) -> Result<(), AllocError>
+    requires { IsReady txn.old }
+    ensures { IfOk result (λ _. IsReady txn.new) }
+{
+    'turns: for _ in 0..12 {
+        turn(world, txn, text)?;
+    }
+    Ok(())
+}
+
+/// Notes the reply of a statement, or that it is open.
+fn note_end(text: &mut String, txn: Txn) -> Result<(), AllocError>
+    requires { IsReady txn }
+{
+    if txn.pending.is_some() {
+        return text.push_str("open");
+    }
+    let Finish { reply } = txn.finish();
+    note_reply(text, &reply)
+}
+
+/// The statement of a number, which is to make its first call.
+fn begun(alloc: Global, number: u32, what: Statement) -> Txn
+    ensures { IsReady result }
+{
+    let tag = Tag {
+        actor: 1,
+        statement: number,
+    };
+    Txn::new(alloc, tag, what, 10)
+}
+
+/// The calls of a statement and its reply.
 fn run(
     alloc: Global,
     world: &mut MemWorld,
-    statement: u32,
+    number: u32,
     what: Statement,
 ) -> Result<String, AllocError> {
     let mut text = String::new(alloc);
-    let mut txn = Txn::new(
-        alloc,
-        Tag {
-            actor: 1,
-            statement,
-        },
-        what,
-        10,
-    );
-    'turns: for _ in 0..12 {
-        turn(world, &mut txn, &mut text)?;
-    }
-    if txn.pending.is_some() {
-        text.push_str("open")?;
-    } else {
-        let Finish { reply } = txn.finish();
-        note_reply(&mut text, &reply)?;
-    }
+    let mut txn = begun(alloc, number, what);
+    turns(world, &mut txn, &mut text)?;
+    note_end(&mut text, txn)?;
     Ok(text)
 }
 
