@@ -1,0 +1,8 @@
+//! Predicates over rows in three-valued logic: how they are written down as trees, and their truth for a row.
+#![tactic(auto)]
+
+mod pred;
+mod truth;
+
+pub use pred::{Op, Operand, Pred};
+pub use truth::Truth;
