@@ -123,16 +123,16 @@ fn key(
     alloc: Global,
     columns: &[Column],
     names: &[Text],
-    data: &[Datum],
+    values: &[Datum],
 ) -> Result<Items<Datum>, BindFault>
     requires few { length columns.now < 65 }
-    requires same { length data.now ≡ length names.now }
-    ensures read { Reads is_memory result (key_as columns.now names.now data.now) }
+    requires same { length values.now ≡ length names.now }
+    ensures read { Reads is_memory result (key_as columns.now names.now values.now) }
     ensures count { IfOk result (λ ds. length ds ≡ length names.now) }
 {
     let mut key = Vec::with_capacity(alloc, names.len())?;
     for i in 0..names.len() {
-        key.push(key_literal(columns, &names[i], &data[i])?)?;
+        key.push(key_literal(columns, &names[i], &values[i])?)?;
     }
     Ok(Items::from_vec(key))
 }
@@ -142,14 +142,14 @@ fn whole_key(
     alloc: Global,
     columns: &[Column],
     names: &[Text],
-    data: &[Datum],
+    values: &[Datum],
 ) -> Result<Items<Datum>, BindFault>
     requires { length columns.now < 65 }
-    ensures read { Reads is_memory result (key_in columns.now names.now data.now) }
+    ensures read { Reads is_memory result (key_in columns.now names.now values.now) }
     ensures count { IfOk result (λ ds. length ds ≡ length names.now) }
 {
-    if data.len() == names.len() {
-        key(alloc, columns, names, data)
+    if values.len() == names.len() {
+        key(alloc, columns, names, values)
     } else {
         Err(BindFault::Count)
     }

@@ -4,11 +4,13 @@
 
 mod bind;
 mod copies;
+mod expr;
 mod fault;
 mod pred;
 mod truth;
 
 pub use copies::ColumnKey;
+pub use expr::{Expr, ExprFault};
 pub use fault::BindFault;
 pub use pred::{Op, Operand, Pred};
 pub use truth::Truth;

@@ -134,7 +134,7 @@ impl Pred<u32> {
 }
 
 /// What stands in a column.
-fn cell(row: &[Datum], column: u32) -> &Datum
+pub(crate) fn cell(row: &[Datum], column: u32) -> &Datum
     requires { column < length row.now }
     ensures { result.now ≡ Rattle.predicates.specs.Truths.cell row.now column }
 {

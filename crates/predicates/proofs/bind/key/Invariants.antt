@@ -6,5 +6,5 @@ use Rattle.predicates.proofs.bind.key.Given as goal
 
 abbrev pub invariant-loop-i : goal.invariant-loop-i
 invariant-loop-i l =
-    ((key_as l.columns (drop l.i l.names) (drop l.i l.data) >>= λ ds. Ok (l.key.items ++ ds)) ≡ key_as l.columns l.names l.data)
+    ((key_as l.columns (drop l.i l.names) (drop l.i l.values) >>= λ ds. Ok (l.key.items ++ ds)) ≡ key_as l.columns l.names l.values)
     × (length l.key.items ≡ l.i)
