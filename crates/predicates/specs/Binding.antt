@@ -15,6 +15,9 @@ use Rattle.predicates.specs.declared.pred.Operand.TheVariants as operand
 use Rattle.predicates.specs.declared.pred.Pred.{Pred, fold-Pred}
 use Rattle.predicates.specs.declared.pred.Pred.TheOpen.{Pred-F}
 use Rattle.predicates.specs.declared.pred.Pred.TheVariants as pred
+use Rattle.predicates.specs.declared.expr.Expr.{Expr, fold-Expr}
+use Rattle.predicates.specs.declared.expr.Expr.TheOpen.{Expr-F}
+use Rattle.predicates.specs.declared.expr.Expr.TheVariants as expr
 use Rattle.predicates.specs.declared.fault.BindFault.{BindFault}
 use Rattle.predicates.specs.declared.fault.BindFault.TheVariants as fault
 
@@ -120,3 +123,33 @@ bind_step columns (Pred-F.Keys ns ks) = keys_in columns ns ks
 -- a predicate over places for one over the names of these columns
 abbrev pub bound_in : List Column → Pred (List ℕ) → Result (Pred ℕ) BindFault
 bound_in columns = fold-Pred (List ℕ) (Result (Pred ℕ) BindFault) (bind_step columns)
+
+-- the place of a column that must be of this kind, in an expression for the column of this name
+abbrev pub place_of_kind : List Column → Kind → List ℕ → List ℕ → Result ℕ BindFault
+place_of_kind columns k c name =
+    found_in columns c >>= λ p. if same_kind k p.1 then Ok p.0 else Err (fault.Kind name)
+
+-- arithmetic makes longs and integers alone
+abbrev pub number_kind : Kind → List ℕ → Result (Unit {0}) BindFault
+number_kind kind.Long name = Ok tt
+number_kind kind.Integer name = Ok tt
+number_kind k name = Err (fault.Kind name)
+
+-- two sides of arithmetic: where it is of the wrong kind, that stands at its first name or literal, behind a column
+-- there that isn't in the table
+abbrev pub sides_in : Kind → List ℕ → (Expr ℕ → Expr ℕ → Expr ℕ) → Result (Expr ℕ) BindFault → Result (Expr ℕ) BindFault → Result (Expr ℕ) BindFault
+sides_in k name make left right =
+    left >>= λ a. number_kind k name >>= λ u. right >>= λ b. Ok (make a b)
+
+-- one level, whose sides are bound
+abbrev pub bind_expr_step : List Column → Kind → List ℕ → Expr-F (List ℕ) (Result (Expr ℕ) BindFault) → Result (Expr ℕ) BindFault
+bind_expr_step columns k name (Expr-F.Cell c) = place_of_kind columns k c name >>= λ p. Ok (expr.Cell p)
+bind_expr_step columns k name (Expr-F.SourceCell c) = place_of_kind columns k c name >>= λ p. Ok (expr.SourceCell p)
+bind_expr_step columns k name (Expr-F.Literal d) = literal_as k d name >>= λ e. Ok (expr.Literal e)
+bind_expr_step columns k name (Expr-F.Plus left right) = sides_in k name expr.Plus left right
+bind_expr_step columns k name (Expr-F.Minus left right) = sides_in k name expr.Minus left right
+bind_expr_step columns k name (Expr-F.Times left right) = sides_in k name expr.Times left right
+
+-- an expression over places for one over the names of these columns, for the column of this kind and name
+abbrev pub bound_expr_in : List Column → Kind → List ℕ → Expr (List ℕ) → Result (Expr ℕ) BindFault
+bound_expr_in columns k name = fold-Expr (List ℕ) (Result (Expr ℕ) BindFault) (bind_expr_step columns k name)

@@ -1,7 +1,7 @@
-//! Copies of predicates.
+//! Copies of predicates and expressions.
 ghost use Rattle.std.specs.Prelude.{◌≡◌, IfOk};
 
-use crate::{Operand, Pred};
+use crate::{Expr, Operand, Pred};
 use row_base::{Items, NoMemory, Text};
 use sqlite_items::Boxed;
 use std::alloc::Global;
@@ -83,6 +83,34 @@ impl<C: ColumnKey> Pred<C> {
                 columns: copy_columns(alloc, columns.as_slice())?,
                 rows: rows.copy(alloc)?,
             }),
+        }
+    }
+}
+
+impl<C: ColumnKey> Expr<C> {
+    /// An equal expression. The bytes of texts are shared.
+    pub fn copy(&self, alloc: Global) -> Result<Expr<C>, NoMemory>
+        ensures { IfOk result (λ e. e ≡ self.now) }
+    {
+        match self {
+            Expr::Cell(column) => Ok(Expr::Cell(column.copy()?)),
+            Expr::SourceCell(column) => Ok(Expr::SourceCell(column.copy()?)),
+            Expr::Literal(datum) => Ok(Expr::Literal(datum.copy()?)),
+            Expr::Plus(left, right) => {
+                let left = left.get().copy(alloc)?;
+                let right = right.get().copy(alloc)?;
+                Ok(Expr::Plus(Boxed::new(alloc, left)?, Boxed::new(alloc, right)?))
+            }
+            Expr::Minus(left, right) => {
+                let left = left.get().copy(alloc)?;
+                let right = right.get().copy(alloc)?;
+                Ok(Expr::Minus(Boxed::new(alloc, left)?, Boxed::new(alloc, right)?))
+            }
+            Expr::Times(left, right) => {
+                let left = left.get().copy(alloc)?;
+                let right = right.get().copy(alloc)?;
+                Ok(Expr::Times(Boxed::new(alloc, left)?, Boxed::new(alloc, right)?))
+            }
         }
     }
 }

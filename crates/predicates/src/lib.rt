@@ -3,6 +3,7 @@
 #![tactic(auto)]
 
 mod bind;
+mod bind_expr;
 mod copies;
 mod expr;
 mod fault;
