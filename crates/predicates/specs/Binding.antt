@@ -1,6 +1,6 @@
 -- A predicate or an expression over the places of columns for one over their names, or the first fault from the left.
-use Rattle.std.specs.Prelude.{◌≡◌, ◌==◌, ℕ, ℤ, List, [], ◌∷◌, length, Option, Some, None, Result, Ok, Err, Bool, true, false, ◌&&◌, if◌then◌else◌, slice_get, option_map, option_and_then}
-use Rattle.std.specs.List.{position, list_all}
+use Rattle.std.specs.Prelude.{◌==◌, ℕ, ℤ, List, [], ◌∷◌, length, Option, Some, None, Result, Ok, Err, Bool, true, false, if◌then◌else◌, slice_get, option_map, option_and_then}
+use Rattle.std.specs.List.{position}
 use Rattle.std.specs.Cmp.Lexicographic.{pointwise}
 use Rattle.row_base.specs.Faults.{◌>>=◌}
 use Rattle.row_base.specs.Schema.{is_i32}

@@ -1,5 +1,5 @@
 -- The value of an expression for a row.
-use Rattle.std.specs.Prelude.{◌≡◌, ℕ, ℤ, ◌+ℤ◌, ◌-ℤ◌, ◌*ℤ◌, ◌&&◌, List, [], Bool, true, false, nat_lt, if◌then◌else◌, Option, Some, None, Result, Ok, Err}
+use Rattle.std.specs.Prelude.{ℕ, ℤ, ◌+ℤ◌, ◌-ℤ◌, ◌*ℤ◌, ◌&&◌, List, [], Bool, true, false, nat_lt, if◌then◌else◌, Option, Some, None, Result, Ok, Err}
 use Rattle.row_base.specs.Faults.{◌>>=◌}
 use Rattle.row_base.specs.Numbers.{is_i64}
 use Rattle.row_base.specs.Schema.{is_i32}

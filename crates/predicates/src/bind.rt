@@ -1,7 +1,6 @@
 //! Predicates over places for predicates over names.
-ghost use Rattle.std.specs.Prelude.{◌≡◌, ◌==◌, ◌<◌, ◌^◌, true, length, nat_lt, IfOk, IfSome};
-ghost use Rattle.std.specs.List.{list_all, position};
-ghost use Rattle.std.specs.Cmp.Lexicographic.{pointwise};
+ghost use Rattle.std.specs.Prelude.{◌≡◌, ◌==◌, ◌<◌, true, length, nat_lt, IfOk, IfSome};
+ghost use Rattle.std.specs.List.{list_all};
 ghost use Rattle.row_base.specs.Faults.{Reads};
 ghost use Rattle.predicates.specs.Truths.{is_bound, is_operand};
 ghost use Rattle.predicates.specs.Binding.{is_memory, place_in, found_in, literal_as, operand_in, places_in, key_literal_in, key_as, key_in, keys_as, keys_in, comparison_in, bound_in};

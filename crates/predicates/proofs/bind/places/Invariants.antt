@@ -1,5 +1,5 @@
 -- The places so far, before those of the names that are left, are the places; each is a column's.
-use Rattle.std.proofs.Common.{◌≡◌, ◌++◌, ◌+◌, drop, length, true, nat_lt, Ok}
+use Rattle.std.proofs.Common.{◌≡◌, ◌++◌, drop, length, true, nat_lt, Ok}
 use Rattle.std.specs.List.{list_all}
 use Rattle.row_base.specs.Faults.{◌>>=◌}
 use Rattle.predicates.specs.Binding.{places_in}

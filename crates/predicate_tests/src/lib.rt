@@ -1,0 +1,5 @@
+//! Tests of predicates and expressions.
+#![tactic(auto)]
+
+#[cfg(test)]
+mod predicates_of_rows;
