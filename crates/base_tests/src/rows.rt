@@ -7,7 +7,7 @@ use row_base::{
 };
 use std::alloc::Global;
 use std::cmp::Ordering;
-use std::collections::BTreeMap;
+use std::collections::{BTreeMap, VecDeque};
 use std::test::Fail;
 
 /// Passes for a type that may be shared between threads.
@@ -222,6 +222,36 @@ fn longs_text(alloc: Global, rows: RowSlice<'_>) -> Result<String, NoMemory> {
         }
     }
     Ok(text)
+}
+
+/// These longs, to be taken from.
+fn longs(alloc: Global, numbers: &[i64]) -> Result<VecDeque<Datum>, NoMemory> {
+    let mut values = Vec::new(alloc);
+    for number in numbers {
+        values.push(Datum::Long(*number))?;
+    }
+    Ok(VecDeque::from_vec(values))
+}
+
+/// The two rows of the columns 4, 5 and 6.
+fn side_by_side(alloc: Global) -> Result<Rows, NoMemory> {
+    let mut columns = Vec::new(alloc);
+    columns.push(longs(alloc, &[4, 5])?)?;
+    columns.push(longs(alloc, &[6])?)?;
+    let mut rows = Rows::new(alloc);
+    rows.reserve(2, 4)?;
+    rows.push_next(columns.as_mut_slice())?;
+    rows.push_next(columns.as_mut_slice())?;
+    Ok(rows)
+}
+
+#[test]
+fn columns_become_rows(rt: HostRuntime) -> Result<(), Fail> {
+    let rows = side_by_side(rt.alloc())?;
+    assert_eq!(rt; rows.len(), 2);
+    assert!(rt; rows.get(0) == Some(&[Datum::Long(4), Datum::Long(6)]));
+    assert!(rt; rows.get(1) == Some(&[Datum::Long(5), Datum::Null]));
+    Ok(())
 }
 
 #[test]

@@ -15,6 +15,7 @@ pub enum Step {
 /// What an actor is fed after its call.
 #[derive(Drop)]
 pub enum Fed {
+    /// The store's answer.
     Answer(Answer),
     /// Memory was wanting for the call, which wasn't made.
     NoMemory,

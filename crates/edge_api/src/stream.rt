@@ -5,6 +5,7 @@ ghost use Rattle.std.specs.Io.KnownBytes.{ReadConsumes, WriteAppends, Consumes, 
 ghost use Rattle.edge_api.specs.World.{Rose};
 ghost use Rattle.edge_api.specs.Streams.{ReadsAll, GivesMore, GivesAtMost, AppendsPrefix};
 
+use row_base::OutOfMemory;
 use std::alloc::{AllocError, Global};
 
 /// How many bytes `read_all` asks for at a time.
@@ -56,16 +57,17 @@ pub enum ReadError {
     Failed,
     /// More bytes came than the limit.
     TooLong,
+    /// Memory ran out.
     NoMemory,
 }
 
-impl From<AllocError> for ReadError {
+impl<E: OutOfMemory> From<E> for ReadError {
     ghost use Rattle.std.specs.Prelude.{◌≡◌};
     ghost use Rattle.edge_api.specs.declared.stream.ReadError.TheVariants.{NoMemory};
 
     ghost from_gives = { λ _ e. e ≡ NoMemory };
 
-    fn from(_refused: AllocError) -> ReadError {
+    fn from(_refused: E) -> ReadError {
         ReadError::NoMemory
     }
 }

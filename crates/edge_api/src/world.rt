@@ -16,7 +16,7 @@ pub trait World {
 
     /// Makes a call. An answer appends exactly this call with it to the journal, is of the call's kind,
     /// and is a fault only where the count of faults rose. The error is want of memory: it hands the call
-    /// back, and nothing has changed. A journal that is told has a legal completion.
+    /// back, and leaves the journal as before. A journal that is told has a legal completion.
     fn call(&mut self, tag: Tag, call: Call) -> Result<Answer, Back>
         ensures appended { IfOk result (λ answer. Grows (journal self.old) (record { tag = tag; call = call; answer = answer } ∷ []) (journal self.new)) }
         ensures kind { IfOk result (λ answer. IsOfKind call answer) }
@@ -29,7 +29,9 @@ pub trait World {
 
 /// What threads call around a statement: before its first call of the store, and after its reply is made.
 pub trait Gate {
+    /// A statement begins: it has made no call yet.
     fn enter(&self, tag: Tag);
 
+    /// A statement has its reply, and makes no further call.
     fn leave(&self, tag: Tag);
 }

@@ -6,5 +6,6 @@ pub mod DateLemmas
 pub mod DateRange
 pub mod Bags
 pub mod RowEndLemmas
+pub mod ColumnLemmas
 pub mod SortLemmas
 pub mod Numerals

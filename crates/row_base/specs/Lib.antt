@@ -1,4 +1,5 @@
 pub mod Bags
+pub mod Columns
 pub mod Dates
 pub mod Faults
 pub mod Numbers

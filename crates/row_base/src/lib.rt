@@ -19,7 +19,7 @@ mod text;
 pub use bag::rows_are_counted;
 pub use date::{dates_give_back, read_date, write_date};
 pub use items::Items;
-pub use memory::NoMemory;
+pub use memory::{NoMemory, OutOfMemory};
 pub use order::{cmp_rows, row_order_is_total};
 pub use row::{Datum, Kind, Row, ScannedFile};
 pub use row_slice::RowSlice;

@@ -19,3 +19,12 @@ impl<T: Drop> From<AllocFailed<T>> for NoMemory {
         NoMemory
     }
 }
+
+/// An answer that says that memory ran out, and nothing else. A type of faults is made from each of them by one `From`.
+pub trait OutOfMemory: Drop {}
+
+impl OutOfMemory for NoMemory {}
+
+impl OutOfMemory for AllocError {}
+
+impl<T: Drop> OutOfMemory for AllocFailed<T> {}

@@ -1,10 +1,12 @@
 //! Rows, one after another in one list of data.
-ghost use Rattle.std.specs.Prelude.{◌≡◌, ◌++◌, ◌∷◌, [], ◌<◌, length, IfOk, OnOk, OnErr, slice_get, option_map, take, map, ◌+◌, ◌≤◌, ◌==◌, ◌^◌, vec_len, vec_capacity};
+ghost use Rattle.std.specs.Prelude.{◌≡◌, ◌++◌, ◌∷◌, [], ◌<◌, length, IfOk, OnOk, OnErr, slice_get, option_map, take, drop, map, ◌+◌, ◌≤◌, ◌==◌, ◌^◌, vec_len, vec_capacity};
 ghost use Rattle.std.specs.List.{All};
+ghost use Rattle.row_base.specs.Columns.{head_or_null};
 
 use crate::row_slice::RowSlice;
 use crate::{Datum, NoMemory, Row};
 use std::alloc::Global;
+use std::collections::VecDeque;
 use std::marker::Model;
 
 /// Rows, one after another in one list of data. Contracts see it as the list of the rows.
@@ -59,6 +61,28 @@ impl Rows {
         ensures { result ≡ length self.now }
     {
         self.ends.len()
+    }
+
+    /// Makes room for so many rows more, and so many data in all of them.
+    pub fn reserve(&mut self, rows: usize, data: usize) -> Result<(), NoMemory>
+        ensures { self.new ≡ self.old }
+    {
+        self.ends.reserve(rows)?;
+        self.values.reserve(data)?;
+        Ok(())
+    }
+
+    /// Puts a row of the next value of each column behind the others, with null where a column has no value left.
+    pub fn push_next(&mut self, columns: &mut [VecDeque<Datum>]) -> Result<(), NoMemory>
+        ensures ok { OnOk result (self.new ≡ self.old ++ map (λ c. head_or_null c.items) columns.old ∷ []) }
+        ensures rest { OnOk result (map (λ c. c.items) columns.new ≡ map (λ c. drop 1 c.items) columns.old) }
+        ensures err { OnErr result (self.new ≡ self.old) }
+    {
+        self.ends.reserve(1)?;
+        self.values.reserve(columns.len())?;
+        take_next(columns, &mut self.values);
+        self.ends.push_reserved(self.values.len());
+        Ok(())
     }
 
     /// Puts a row behind the others. The list of its data is left without any, with its room.
@@ -156,6 +180,28 @@ impl Rows {
             rows.push(Row::make(values))?;
         }
         Ok(rows)
+    }
+}
+
+/// The first of these values, taken out, or null where there is none.
+fn next_value(values: &mut VecDeque<Datum>) -> Datum
+    ensures value { result ≡ head_or_null values.old.items }
+    ensures rest { values.new.items ≡ drop 1 values.old.items }
+{
+    match values.pop_front() {
+        Some(value) => value,
+        None => Datum::Null,
+    }
+}
+
+/// The first value of each column, taken out and put behind the others. There is room.
+fn take_next(columns: &mut [VecDeque<Datum>], values: &mut Vec<Datum>)
+    requires room { vec_len values.old + length columns.old ≤ vec_capacity values.old }
+    ensures values { values.new.items ≡ values.old.items ++ map (λ c. head_or_null c.items) columns.old }
+    ensures rest { map (λ c. c.items) columns.new ≡ map (λ c. drop 1 c.items) columns.old }
+{
+    for column in columns.iter_mut() {
+        values.push_reserved(next_value(column));
     }
 }
 
