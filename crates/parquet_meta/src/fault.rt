@@ -2,8 +2,7 @@
 ghost use Rattle.std.specs.Prelude.{◌≡◌};
 ghost use Rattle.parquet_meta.specs.declared.fault.FileFault.TheVariants as faults;
 
-use row_base::{NoMemory, Text};
-use std::alloc::{AllocError, AllocFailed};
+use row_base::{OutOfMemory, Text};
 use thiserror::Error;
 
 /// Why a file has no reading: the first fault met in reading.
@@ -69,26 +68,10 @@ pub enum FileFault {
     NoMemory,
 }
 
-impl From<NoMemory> for FileFault {
+impl<E: OutOfMemory> From<E> for FileFault {
     ghost from_gives = { λ _ e. e ≡ faults.NoMemory };
 
-    fn from(_refused: NoMemory) -> FileFault {
-        FileFault::NoMemory
-    }
-}
-
-impl From<AllocError> for FileFault {
-    ghost from_gives = { λ _ e. e ≡ faults.NoMemory };
-
-    fn from(_refused: AllocError) -> FileFault {
-        FileFault::NoMemory
-    }
-}
-
-impl<T: Drop> From<AllocFailed<T>> for FileFault {
-    ghost from_gives = { λ _ e. e ≡ faults.NoMemory };
-
-    fn from(_refused: AllocFailed<T>) -> FileFault {
+    fn from(_refused: E) -> FileFault {
         FileFault::NoMemory
     }
 }

@@ -12,6 +12,16 @@ use row_base::{Items, NoMemory, Text};
 use std::alloc::Global;
 use thrift_compact::{Appender, Field, Wire};
 
+/// Keeps the value that is read as that of a field.
+macro_rules! keep {
+    ($field:expr, $read:expr) => {{
+        $field = Some($read?);
+        Ok(())
+    }};
+}
+
+pub(crate) use keep;
+
 /// What is known of a struct while its fields are read. Memory is taken from an `M`: `Global`, or `()` where none is.
 pub(crate) trait Fields<M>: Drop {
     ghost step: { Piece → ℤ → Wire → ℕ → ℕ → Self → Result (Self × ℕ) FileFault };

@@ -8,7 +8,9 @@ ghost use Rattle.thrift_compact.specs.declared.wire.Wire.TheVariants as wires;
 ghost use Rattle.thrift_compact.specs.Writing.{number_bytes, binary_bytes};
 
 use crate::fault::FileFault;
-use crate::fields::{Element, Fields, needed, read_fields, read_list, read_number, read_text};
+use crate::fields::{
+    Element, Fields, keep, needed, read_fields, read_list, read_number, read_text,
+};
 use crate::known::{ChunkKnown, ColumnKnown, ElementKnown, FileKnown, GroupKnown};
 use crate::meta::{ColumnChunk, ColumnMetaData, FileMeta, RowGroup, SchemaElement};
 use crate::reader::{Header, Reader};
@@ -67,14 +69,8 @@ impl Fields<Global> for ColumnKnown {
         header: Header,
     ) -> Result<(), FileFault> {
         match header.id {
-            2 => {
-                self.encodings = Some(read_list(alloc, reader, header)?);
-                Ok(())
-            }
-            3 => {
-                self.path_in_schema = Some(read_list(alloc, reader, header)?);
-                Ok(())
-            }
+            2 => keep!(self.encodings, read_list(alloc, reader, header)),
+            3 => keep!(self.path_in_schema, read_list(alloc, reader, header)),
             _ => self.put_number(reader, header),
         }
     }
@@ -86,34 +82,25 @@ impl ColumnKnown {
         ensures { Puts reader.old reader.new self.new result (spec.column_number_step reader.old.piece header.id header.wire header.place reader.old.at self.old) }
     {
         match header.id {
-            1 => {
-                self.physical_type = Some(read_number(reader, header, Wire::I32)?);
-                Ok(())
-            }
-            4 => {
-                self.codec = Some(read_number(reader, header, Wire::I32)?);
-                Ok(())
-            }
-            5 => {
-                self.num_values = Some(read_number(reader, header, Wire::I64)?);
-                Ok(())
-            }
-            6 => {
-                self.total_uncompressed_size = Some(read_number(reader, header, Wire::I64)?);
-                Ok(())
-            }
-            7 => {
-                self.total_compressed_size = Some(read_number(reader, header, Wire::I64)?);
-                Ok(())
-            }
-            9 => {
-                self.data_page_offset = Some(read_number(reader, header, Wire::I64)?);
-                Ok(())
-            }
-            11 => {
-                self.dictionary_page_offset = Some(read_number(reader, header, Wire::I64)?);
-                Ok(())
-            }
+            1 => keep!(self.physical_type, read_number(reader, header, Wire::I32)),
+            4 => keep!(self.codec, read_number(reader, header, Wire::I32)),
+            5 => keep!(self.num_values, read_number(reader, header, Wire::I64)),
+            6 => keep!(
+                self.total_uncompressed_size,
+                read_number(reader, header, Wire::I64)
+            ),
+            7 => keep!(
+                self.total_compressed_size,
+                read_number(reader, header, Wire::I64)
+            ),
+            9 => keep!(
+                self.data_page_offset,
+                read_number(reader, header, Wire::I64)
+            ),
+            11 => keep!(
+                self.dictionary_page_offset,
+                read_number(reader, header, Wire::I64)
+            ),
             _ => reader.skip(header.wire),
         }
     }
@@ -169,18 +156,9 @@ impl Fields<Global> for GroupKnown {
         header: Header,
     ) -> Result<(), FileFault> {
         match header.id {
-            1 => {
-                self.columns = Some(read_list(alloc, reader, header)?);
-                Ok(())
-            }
-            2 => {
-                self.total_byte_size = Some(read_number(reader, header, Wire::I64)?);
-                Ok(())
-            }
-            3 => {
-                self.num_rows = Some(read_number(reader, header, Wire::I64)?);
-                Ok(())
-            }
+            1 => keep!(self.columns, read_list(alloc, reader, header)),
+            2 => keep!(self.total_byte_size, read_number(reader, header, Wire::I64)),
+            3 => keep!(self.num_rows, read_number(reader, header, Wire::I64)),
             _ => reader.skip(header.wire),
         }
     }
@@ -227,18 +205,9 @@ impl Fields<Global> for ChunkKnown {
         header: Header,
     ) -> Result<(), FileFault> {
         match header.id {
-            1 => {
-                self.file_path = Some(read_text(alloc, reader, header)?);
-                Ok(())
-            }
-            2 => {
-                self.file_offset = Some(read_number(reader, header, Wire::I64)?);
-                Ok(())
-            }
-            3 => {
-                self.meta_data = Some(read_column(alloc, reader, header)?);
-                Ok(())
-            }
+            1 => keep!(self.file_path, read_text(alloc, reader, header)),
+            2 => keep!(self.file_offset, read_number(reader, header, Wire::I64)),
+            3 => keep!(self.meta_data, read_column(alloc, reader, header)),
             _ => reader.skip(header.wire),
         }
     }
@@ -301,26 +270,11 @@ impl Fields<Global> for ElementKnown {
         header: Header,
     ) -> Result<(), FileFault> {
         match header.id {
-            1 => {
-                self.physical_type = Some(read_number(reader, header, Wire::I32)?);
-                Ok(())
-            }
-            3 => {
-                self.repetition_type = Some(read_number(reader, header, Wire::I32)?);
-                Ok(())
-            }
-            4 => {
-                self.name = Some(read_text(alloc, reader, header)?);
-                Ok(())
-            }
-            5 => {
-                self.num_children = Some(read_number(reader, header, Wire::I32)?);
-                Ok(())
-            }
-            6 => {
-                self.converted_type = Some(read_number(reader, header, Wire::I32)?);
-                Ok(())
-            }
+            1 => keep!(self.physical_type, read_number(reader, header, Wire::I32)),
+            3 => keep!(self.repetition_type, read_number(reader, header, Wire::I32)),
+            4 => keep!(self.name, read_text(alloc, reader, header)),
+            5 => keep!(self.num_children, read_number(reader, header, Wire::I32)),
+            6 => keep!(self.converted_type, read_number(reader, header, Wire::I32)),
             _ => reader.skip(header.wire),
         }
     }
@@ -381,22 +335,10 @@ impl Fields<Global> for FileKnown {
         header: Header,
     ) -> Result<(), FileFault> {
         match header.id {
-            1 => {
-                self.version = Some(read_number(reader, header, Wire::I32)?);
-                Ok(())
-            }
-            2 => {
-                self.schema = Some(read_list(alloc, reader, header)?);
-                Ok(())
-            }
-            3 => {
-                self.num_rows = Some(read_number(reader, header, Wire::I64)?);
-                Ok(())
-            }
-            4 => {
-                self.row_groups = Some(read_list(alloc, reader, header)?);
-                Ok(())
-            }
+            1 => keep!(self.version, read_number(reader, header, Wire::I32)),
+            2 => keep!(self.schema, read_list(alloc, reader, header)),
+            3 => keep!(self.num_rows, read_number(reader, header, Wire::I64)),
+            4 => keep!(self.row_groups, read_list(alloc, reader, header)),
             _ => reader.skip(header.wire),
         }
     }

@@ -6,7 +6,7 @@ ghost use Rattle.parquet_meta.specs.Heads as spec;
 ghost use Rattle.thrift_compact.specs.declared.wire.Wire.TheVariants as wires;
 
 use crate::fault::FileFault;
-use crate::fields::{Fields, needed, read_fields, read_number};
+use crate::fields::{Fields, keep, needed, read_fields, read_number};
 use crate::head::{DataPageHead, DictionaryPageHead, PageHead};
 use crate::known::{
     DataKnown, DataNumbers, DictionaryKnown, DictionaryNumbers, HeadKnown, HeadNumbers,
@@ -24,22 +24,16 @@ impl Fields<()> for DataKnown {
         header: Header,
     ) -> Result<(), FileFault> {
         match header.id {
-            1 => {
-                self.num_values = Some(read_number(reader, header, Wire::I32)?);
-                Ok(())
-            }
-            2 => {
-                self.encoding = Some(read_number(reader, header, Wire::I32)?);
-                Ok(())
-            }
-            3 => {
-                self.definition_level_encoding = Some(read_number(reader, header, Wire::I32)?);
-                Ok(())
-            }
-            4 => {
-                self.repetition_level_encoding = Some(read_number(reader, header, Wire::I32)?);
-                Ok(())
-            }
+            1 => keep!(self.num_values, read_number(reader, header, Wire::I32)),
+            2 => keep!(self.encoding, read_number(reader, header, Wire::I32)),
+            3 => keep!(
+                self.definition_level_encoding,
+                read_number(reader, header, Wire::I32)
+            ),
+            4 => keep!(
+                self.repetition_level_encoding,
+                read_number(reader, header, Wire::I32)
+            ),
             _ => reader.skip(header.wire),
         }
     }
@@ -81,14 +75,8 @@ impl Fields<()> for DictionaryKnown {
         header: Header,
     ) -> Result<(), FileFault> {
         match header.id {
-            1 => {
-                self.num_values = Some(read_number(reader, header, Wire::I32)?);
-                Ok(())
-            }
-            2 => {
-                self.encoding = Some(read_number(reader, header, Wire::I32)?);
-                Ok(())
-            }
+            1 => keep!(self.num_values, read_number(reader, header, Wire::I32)),
+            2 => keep!(self.encoding, read_number(reader, header, Wire::I32)),
             _ => reader.skip(header.wire),
         }
     }
@@ -126,26 +114,17 @@ impl Fields<()> for HeadKnown {
         header: Header,
     ) -> Result<(), FileFault> {
         match header.id {
-            1 => {
-                self.page_type = Some(read_number(reader, header, Wire::I32)?);
-                Ok(())
-            }
-            2 => {
-                self.uncompressed_page_size = Some(read_number(reader, header, Wire::I32)?);
-                Ok(())
-            }
-            3 => {
-                self.compressed_page_size = Some(read_number(reader, header, Wire::I32)?);
-                Ok(())
-            }
-            5 => {
-                self.data_page = Some(read_data(reader, header)?);
-                Ok(())
-            }
-            7 => {
-                self.dictionary_page = Some(read_dictionary(reader, header)?);
-                Ok(())
-            }
+            1 => keep!(self.page_type, read_number(reader, header, Wire::I32)),
+            2 => keep!(
+                self.uncompressed_page_size,
+                read_number(reader, header, Wire::I32)
+            ),
+            3 => keep!(
+                self.compressed_page_size,
+                read_number(reader, header, Wire::I32)
+            ),
+            5 => keep!(self.data_page, read_data(reader, header)),
+            7 => keep!(self.dictionary_page, read_dictionary(reader, header)),
             8 => {
                 header.expect(Wire::Struct)?;
                 reader.skip(Wire::Struct)?;

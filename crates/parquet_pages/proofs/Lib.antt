@@ -3,6 +3,7 @@ pub mod Headers
 pub mod Pieces
 pub mod Texts
 pub mod InLine
+pub mod Longs
 pub mod Bits
 pub mod Same
 pub mod Distinct

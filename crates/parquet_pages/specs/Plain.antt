@@ -20,6 +20,9 @@ block_in bytes = cut 4 bytes >>= λ front. cut (from_le_bytes w32 front.0) front
 abbrev pub long_of : List ℕ → ℤ
 long_of bytes = cast_signed w64 (from_le_bytes w64 bytes)
 
+abbrev pub long_datum : List ℕ → Datum
+long_datum bytes = datum.Long (long_of bytes)
+
 abbrev pub integer_of : List ℕ → ℤ
 integer_of bytes = cast_signed w32 (from_le_bytes w32 bytes)
 

@@ -4,8 +4,7 @@ ghost use Rattle.parquet_pages.specs.declared.fault.BodyFault.TheVariants as bod
 ghost use Rattle.parquet_pages.specs.Gives.{fault_at};
 
 use parquet_meta::FileFault;
-use row_base::NoMemory;
-use std::alloc::{AllocError, AllocFailed};
+use row_base::OutOfMemory;
 
 /// Why a page's body has no reading.
 #[derive(Clone, Copy, Debug, Drop, PartialEq, Eq)]
@@ -28,26 +27,10 @@ impl BodyFault {
     }
 }
 
-impl From<NoMemory> for BodyFault {
+impl<E: OutOfMemory> From<E> for BodyFault {
     ghost from_gives = { λ _ e. e ≡ body.NoMemory };
 
-    fn from(_refused: NoMemory) -> BodyFault {
-        BodyFault::NoMemory
-    }
-}
-
-impl From<AllocError> for BodyFault {
-    ghost from_gives = { λ _ e. e ≡ body.NoMemory };
-
-    fn from(_refused: AllocError) -> BodyFault {
-        BodyFault::NoMemory
-    }
-}
-
-impl<T: Drop> From<AllocFailed<T>> for BodyFault {
-    ghost from_gives = { λ _ e. e ≡ body.NoMemory };
-
-    fn from(_refused: AllocFailed<T>) -> BodyFault {
+    fn from(_refused: E) -> BodyFault {
         BodyFault::NoMemory
     }
 }

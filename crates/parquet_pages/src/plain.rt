@@ -1,7 +1,8 @@
 //! Values in the PLAIN encoding (Parquet format, Encodings.md, "Plain: (PLAIN = 0)").
-ghost use Rattle.std.specs.Prelude.{◌≡◌, ◌≤◌, ◌*◌, ◌++◌, length, option_map, IfOk, OnOk};
+ghost use Rattle.std.specs.Prelude.{◌≡◌, ◌≤◌, ◌*◌, ◌++◌, length, map, option_map, IfOk, OnOk};
 ghost use Rattle.std.specs.List.{flat_map};
 ghost use Rattle.bit_pack.specs.Bits.{most_values};
+ghost use Rattle.row_base.specs.declared.row.Kind.TheVariants as kind;
 ghost use Rattle.parquet_pages.specs.Gives.{Gives};
 ghost use Rattle.parquet_pages.specs.Plain as spec;
 ghost use Rattle.parquet_pages.specs.Written as written;
@@ -14,6 +15,9 @@ use std::str;
 
 /// The most bytes of a text.
 const MAX_TEXT: usize = 65_535;
+
+/// The bytes of a long.
+const LONG_SIZE: usize = 8;
 
 /// The fewest bytes of a value that isn't a boolean.
 const LEAST_SIZE: usize = 4;
@@ -129,6 +133,29 @@ fn values_in_line(
     Ok(values)
 }
 
+/// The longs of these bytes.
+fn longs_of(alloc: Global, longs: &[[u8; LONG_SIZE]]) -> Result<Vec<Datum>, NoMemory>
+    ensures { IfOk result (λ v. v.items ≡ map spec.long_datum longs.now) }
+{
+    let mut values = Vec::with_capacity(alloc, longs.len())?;
+    for long in longs {
+        values.push_reserved(Datum::Long(i64::from_le_bytes(*long)));
+    }
+    Ok(values)
+}
+
+/// So many longs one behind the other.
+fn longs(alloc: Global, count: usize, bytes: &[u8]) -> Result<Vec<Datum>, BodyFault>
+    ensures { Gives result (λ v. v.items) (spec.values_in_line kind.Long count bytes.now) }
+{
+    let (chunks, _rest) = bytes.as_chunks::<LONG_SIZE>();
+    if chunks.len() < count {
+        return Err(BodyFault::Damaged);
+    }
+    let (longs, _others) = chunks.split_at(count);
+    Ok(longs_of(alloc, longs)?)
+}
+
 /// So many booleans, a bit each.
 #[tactic(auto, unfolding(crate::specs::Plain::booleans_in))]
 fn booleans(alloc: Global, count: usize, bytes: &[u8]) -> Result<Vec<Datum>, BodyFault>
@@ -156,9 +183,8 @@ pub(crate) fn plain_values(
 {
     match kind {
         Kind::Boolean => booleans(alloc, count, bytes),
-        Kind::Long | Kind::Integer | Kind::String | Kind::Date => {
-            values_in_line(alloc, kind, count, bytes)
-        }
+        Kind::Long => longs(alloc, count, bytes),
+        Kind::Integer | Kind::String | Kind::Date => values_in_line(alloc, kind, count, bytes),
     }
 }
 

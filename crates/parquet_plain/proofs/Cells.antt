@@ -3,7 +3,8 @@ use Rattle.std.proofs.Common.{◌≡◌, ℕ, zero, suc, ◌+◌, List, [], ◌�
 use Rattle.std.specs.Prelude.{replicate}
 use Rattle.row_base.specs.declared.row.Datum.{Datum}
 use Rattle.row_base.specs.declared.row.Datum.TheVariants as datum
-use Rattle.parquet_plain.specs.Reading.{head_or_null, with_column, with_columns, side_by_side}
+use Rattle.row_base.specs.Columns.{head_or_null}
+use Rattle.parquet_plain.specs.Reading.{with_column, with_columns, side_by_side}
 use Rattle.parquet_plain.specs.Grammar.{row_at, rows_from, RowsAreBeside}
 
 -- a list of what a function gives at so many places

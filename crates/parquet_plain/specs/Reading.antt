@@ -5,6 +5,7 @@ use Rattle.std.specs.Ordering.{int_eq}
 use Rattle.row_base.specs.declared.row.Datum.{Datum}
 use Rattle.row_base.specs.declared.row.Datum.TheVariants as datum
 use Rattle.row_base.specs.declared.schema.Column.{Column}
+use Rattle.row_base.specs.Columns.{head_or_null}
 use Rattle.row_base.specs.Schema.{TableSchema, is_i32}
 use Rattle.parquet_meta.specs.declared.fault.FileFault.{FileFault}
 use Rattle.parquet_meta.specs.declared.fault.FileFault.TheVariants as faults
@@ -181,11 +182,6 @@ abbrev pub columns_values : List Source → ℕ → List ColumnChunk → List �
 columns_values [] rows chunks file = Ok []
 columns_values (c ∷ cs) rows chunks file =
     source_values c rows chunks file >>= λ vs. columns_values cs rows chunks file >>= λ vss. Ok (vs ∷ vss)
-
--- the first of these values, or null where there is none
-abbrev pub head_or_null : List Datum → Datum
-head_or_null [] = datum.Null
-head_or_null (v ∷ vs) = v
 
 -- each row with a further value, which is null where there is none
 abbrev pub with_column : List (List Datum) → List Datum → List (List Datum)

@@ -5,7 +5,7 @@ ghost use Rattle.std.specs.Option.{option_copied};
 ghost use Rattle.parquet_meta.specs.Faults.{Reads};
 ghost use Rattle.parquet_plain.specs.Reading as spec;
 
-use crate::source::Leaf;
+use crate::source::{Leaf, refuse_shape};
 use crate::tree::physical_of;
 use parquet_meta::{ColumnChunk, ColumnMetaData, FileFault};
 use row_base::{NoMemory, Text};
@@ -137,9 +137,7 @@ pub(crate) fn span_of(
         return Err(codec_fault(&leaf.name, meta.codec)?);
     }
     if !is_whole(rows, size, chunk) {
-        return Err(FileFault::Shape {
-            column: leaf.name.copy()?,
-        });
+        return refuse_shape(&leaf.name);
     }
     let begins = first_byte(meta);
     Ok(Span {

@@ -6,7 +6,7 @@ ghost use Rattle.parquet_plain.specs.Reading as spec;
 use crate::chunk::{chunk_of, span_of};
 use crate::pages::chunk_values;
 use crate::rows::append_side_by_side;
-use crate::source::{Leaf, Source};
+use crate::source::{Leaf, Source, refuse_shape};
 use parquet_meta::{ColumnChunk, FileFault, RowGroup};
 use row_base::limits::MAX_FILE_ROWS;
 use row_base::{Datum, Items, Rows, Text};
@@ -28,9 +28,7 @@ fn leaf_values(
             let span = span_of(leaf, rows, file.len(), chunk)?;
             chunk_values(alloc, leaf, rows, span, file)
         }
-        None => Err(FileFault::Shape {
-            column: leaf.name.copy()?,
-        }),
+        None => refuse_shape(&leaf.name),
     }
 }
 
@@ -46,9 +44,7 @@ fn source_values(
 {
     match source {
         Source::Leaf(leaf) => leaf_values(alloc, leaf, rows, chunks, file),
-        Source::Lacking { name } if rows != 0 => Err(FileFault::Shape {
-            column: name.copy()?,
-        }),
+        Source::Lacking { name } if rows != 0 => refuse_shape(name),
         _ => Ok(Items::from_vec(Vec::new(alloc))),
     }
 }
@@ -77,9 +73,7 @@ fn rows_of(name: &Text, before: usize, number: i64) -> Result<usize, FileFault>
     if 0 <= number && before <= MAX_FILE_ROWS && number <= (MAX_FILE_ROWS - before) as i64 {
         Ok(number as usize)
     } else {
-        Err(FileFault::Shape {
-            column: name.copy()?,
-        })
+        refuse_shape(name)
     }
 }
 

@@ -5,7 +5,7 @@ ghost use Rattle.parquet_pages.specs.Pages as pages;
 ghost use Rattle.parquet_plain.specs.Reading as spec;
 
 use crate::chunk::Span;
-use crate::source::Leaf;
+use crate::source::{Leaf, refuse_shape};
 use parquet_meta::{DataPageHead, DictionaryPageHead, FileFault, PageAt, read_page_head};
 use parquet_pages::{page_has_null, read_dictionary, read_page};
 use row_base::{Datum, Items, NoMemory};
@@ -88,9 +88,7 @@ fn check_nulls(alloc: Global, leaf: &Leaf, page: &PageAt, file: &[u8]) -> Result
 {
     if leaf.optional && !leaf.nullable {
         if page_has_null(alloc, leaf.optional, page, file)? {
-            return Err(FileFault::Shape {
-                column: leaf.name.copy()?,
-            });
+            return refuse_shape(&leaf.name);
         }
     }
     Ok(())
@@ -198,9 +196,7 @@ fn with_data(
     let count = count_in(leaf.optional, page)? as usize;
     let held = walk.values.as_slice().len();
     if rows < held || rows - held < count {
-        return Err(FileFault::Shape {
-            column: leaf.name.copy()?,
-        });
+        return refuse_shape(&leaf.name);
     }
     with_values(alloc, leaf, span, file, page, walk)
 }
@@ -225,7 +221,8 @@ fn with_page(
     }
 }
 
-/// The pages of a chunk up to its end. Each takes a byte at least, so there are no more of them than bytes.
+/// The pages of a chunk up to its end. Each takes a byte at least, so there are no more of them than bytes. Room is made
+/// for no more values than bytes.
 fn with_pages(
     alloc: Global,
     leaf: &Leaf,
@@ -235,9 +232,10 @@ fn with_pages(
 ) -> Result<Walk, FileFault>
     ensures { Reads result (spec.with_pages leaf.now rows span file.now (span.ends - span.begins) (spec.walk_from span.begins)) }
 {
+    let room = rows.min(span.ends.saturating_sub(span.begins));
     let mut walk = Walk {
         at: span.begins,
-        values: Items::from_vec(Vec::new(alloc)),
+        values: Items::from_vec(Vec::with_capacity(alloc, room)?),
         dictionary: None,
     };
     for _byte in span.begins..span.ends {
@@ -256,9 +254,7 @@ fn finished(leaf: &Leaf, rows: usize, span: Span, walk: Walk) -> Result<Items<Da
     if span.ends <= walk.at && walk.values.as_slice().len() == rows {
         Ok(walk.values)
     } else {
-        Err(FileFault::Shape {
-            column: leaf.name.copy()?,
-        })
+        refuse_shape(&leaf.name)
     }
 }
 

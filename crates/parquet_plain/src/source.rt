@@ -1,8 +1,10 @@
 //! Where the values of a table's columns come from.
-ghost use Rattle.std.specs.Prelude.{◌≡◌, ◌==◌, IfOk};
+ghost use Rattle.std.specs.Prelude.{◌≡◌, ◌==◌, Err, IfOk};
+ghost use Rattle.parquet_meta.specs.Faults.{Reads};
+ghost use Rattle.parquet_meta.specs.declared.fault.FileFault.TheVariants as faults;
 ghost use Rattle.parquet_plain.specs.Tree as spec;
 
-use parquet_meta::SchemaElement;
+use parquet_meta::{FileFault, SchemaElement};
 use row_base::{Column, Kind, NoMemory, Schema, Text};
 use std::alloc::Global;
 
@@ -28,6 +30,15 @@ pub(crate) enum Source {
     Lacking { name: Text },
     /// A leaf of the file.
     Leaf(Leaf),
+}
+
+/// What the column of this name reads as, where its shape isn't that of the table's column.
+pub(crate) fn refuse_shape<T>(name: &Text) -> Result<T, FileFault>
+    ensures { Reads result (Err (faults.Shape name.now)) }
+{
+    Err(FileFault::Shape {
+        column: name.copy()?,
+    })
 }
 
 /// Whether an element may be null.

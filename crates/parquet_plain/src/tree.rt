@@ -4,7 +4,7 @@ ghost use Rattle.std.specs.List.{list_any};
 ghost use Rattle.parquet_meta.specs.Faults.{Reads, FaultOf};
 ghost use Rattle.parquet_plain.specs.Tree as spec;
 
-use crate::source::{Source, sources_of};
+use crate::source::{Source, refuse_shape, sources_of};
 use parquet_meta::{FileFault, SchemaElement};
 use row_base::{Kind, Schema, Text};
 use std::alloc::Global;
@@ -140,9 +140,7 @@ fn check_leaf(
     if is_leaf(children, place, element) {
         Ok(())
     } else {
-        Err(FileFault::Shape {
-            column: element.name.copy()?,
-        })
+        refuse_shape(&element.name)
     }
 }
 

@@ -4,6 +4,7 @@ ghost use Rattle.std.specs.Prelude.{◌↔◌, ◌≤ℤ◌, pos, IsTrue};
 ghost use Rattle.std.specs.List.{All};
 ghost use Rattle.row_base.specs.Schema.{FitsSchema};
 
+use crate::meta::FILE;
 use parquet_meta::{
     ColumnChunk, ColumnMetaData, FileFault, FileMeta, RowGroup, SchemaElement, write_footer,
 };
@@ -12,17 +13,6 @@ use row_base::limits::MAX_FILE_ROWS;
 use row_base::{Column, Datum, Items, Kind, NoMemory, Row, Rows, Schema, Text};
 use std::alloc::Global;
 use std::test::Fail;
-
-/// The file of the column `id`, a long that isn't null, and the row (1).
-const FILE: [u8; 99] = [
-    0x50, 0x41, 0x52, 0x31, 0x15, 0x00, 0x15, 0x10, 0x15, 0x10, 0x2c, 0x15, 0x02, 0x15, 0x00, 0x15,
-    0x06, 0x15, 0x06, 0x00, 0x00, 0x01, 0x00, 0x00, 0x00, 0x00, 0x00, 0x00, 0x00, 0x15, 0x02, 0x19,
-    0x2c, 0x48, 0x06, 0x73, 0x63, 0x68, 0x65, 0x6d, 0x61, 0x15, 0x02, 0x00, 0x15, 0x04, 0x25, 0x00,
-    0x18, 0x02, 0x69, 0x64, 0x00, 0x16, 0x02, 0x19, 0x1c, 0x19, 0x1c, 0x26, 0x00, 0x1c, 0x15, 0x04,
-    0x19, 0x25, 0x00, 0x06, 0x19, 0x18, 0x02, 0x69, 0x64, 0x15, 0x00, 0x16, 0x02, 0x16, 0x32, 0x16,
-    0x32, 0x26, 0x08, 0x00, 0x00, 0x16, 0x32, 0x16, 0x02, 0x00, 0x00, 0x3e, 0x00, 0x00, 0x00, 0x50,
-    0x41, 0x52, 0x31,
-];
 
 /// The chunk of the column `id` with the rows (5), (5): a dictionary page, and a data page of places in it.
 const FIVES: [u8; 41] = [
@@ -182,11 +172,15 @@ fn changed(alloc: Global, place: usize, byte: u8) -> Result<Outcome, NoMemory> {
 #[test]
 fn damaged_files_are_refused(rt: HostRuntime) -> Result<(), Fail> {
     let alloc = rt.alloc();
-    assert_eq!(rt; changed(alloc, 74, 0x02)?, Outcome::Codec);
-    assert_eq!(rt; changed(alloc, 91, 0xff)?, Outcome::Footer);
-    assert_eq!(rt; changed(alloc, 88, 0x04)?, Outcome::Shape);
-    assert_eq!(rt; changed(alloc, 76, 0x04)?, Outcome::Shape);
-    assert_eq!(rt; changed(alloc, 5, 0x02)?, Outcome::Kind);
+    for (place, byte, outcome) in [
+        (74, 0x02, Outcome::Codec),
+        (91, 0xff, Outcome::Footer),
+        (88, 0x04, Outcome::Shape),
+        (76, 0x04, Outcome::Shape),
+        (5, 0x02, Outcome::Kind),
+    ] {
+        assert_eq!(rt; changed(alloc, place, byte)?, outcome);
+    }
     Ok(())
 }
 

@@ -96,62 +96,27 @@ fn a_page_with_null(rt: HostRuntime) -> Result<(), Fail> {
     Ok(())
 }
 
+/// Whether a page of PLAIN values has these, in a column that isn't null.
+fn reads_plain(alloc: Global, kind: Kind, page: &PageAt, file: &[u8], values: &[Datum]) -> bool {
+    reads(alloc, kind, false, page, file, None, values)
+}
+
 #[test]
 fn pages_of_each_kind(rt: HostRuntime) -> Result<(), Fail> {
     let alloc = rt.alloc();
-    let integers = [Datum::Integer(-1)];
-    assert!(rt;
-        reads(
-            alloc,
-            Kind::Integer,
-            false,
-            &data_page(0, 1, 4),
-            &[255; 4],
-            None,
-            &integers
-        )
-    );
+    let one = data_page(0, 1, 4);
     let days = [Datum::Date(19_782)];
-    assert!(rt;
-        reads(
-            alloc,
-            Kind::Date,
-            false,
-            &data_page(0, 1, 4),
-            &[0x46, 0x4d, 0, 0],
-            None,
-            &days
-        )
-    );
+    assert!(rt; reads_plain(alloc, Kind::Integer, &one, &[255; 4], &[Datum::Integer(-1)]));
+    assert!(rt; reads_plain(alloc, Kind::Date, &one, &[0x46, 0x4d, 0, 0], &days));
     let flags = [
         Datum::Boolean(true),
         Datum::Boolean(false),
         Datum::Boolean(true),
     ];
-    assert!(rt;
-        reads(
-            alloc,
-            Kind::Boolean,
-            false,
-            &data_page(0, 3, 1),
-            &[5],
-            None,
-            &flags
-        )
-    );
+    assert!(rt; reads_plain(alloc, Kind::Boolean, &data_page(0, 3, 1), &[5], &flags));
     let texts = [text(alloc, "ab")?, text(alloc, "")?];
     let file = [2, 0, 0, 0, b'a', b'b', 0, 0, 0, 0];
-    assert!(rt;
-        reads(
-            alloc,
-            Kind::String,
-            false,
-            &data_page(0, 2, 10),
-            &file,
-            None,
-            &texts
-        )
-    );
+    assert!(rt; reads_plain(alloc, Kind::String, &data_page(0, 2, 10), &file, &texts));
     Ok(())
 }
 
@@ -191,33 +156,36 @@ fn holds(alloc: Global, page: &PageAt, file: &[u8], values: &[Datum]) -> bool {
     }
 }
 
+/// Whether a page of places in this dictionary has these values.
+fn reads_places(
+    alloc: Global,
+    optional: bool,
+    page: &PageAt,
+    file: &[u8],
+    dictionary: &[Datum],
+    values: &[Datum],
+) -> bool {
+    reads(
+        alloc,
+        Kind::Long,
+        optional,
+        page,
+        file,
+        Some(dictionary),
+        values,
+    )
+}
+
 #[test]
 fn a_dictionary_of_one_value(rt: HostRuntime) -> Result<(), Fail> {
     let alloc = rt.alloc();
     let twice = [Datum::Long(5), Datum::Long(5)];
-    let written = bodies(alloc, false, &twice)?;
-    assert!(rt; are(&written, &[5, 0, 0, 0, 0, 0, 0, 0], &[1, 4, 0]));
     let known = [Datum::Long(5)];
-    assert!(rt;
-        holds(
-            alloc,
-            &dictionary_page(0, 1, 8),
-            &[5, 0, 0, 0, 0, 0, 0, 0],
-            &known
-        )
-    );
-    let page = data_page(8, 2, 3);
-    assert!(rt;
-        reads(
-            alloc,
-            Kind::Long,
-            false,
-            &page,
-            &[1, 4, 0],
-            Some(&known),
-            &twice
-        )
-    );
+    let body = [5, 0, 0, 0, 0, 0, 0, 0];
+    let indices = [1, 4, 0];
+    assert!(rt; are(&bodies(alloc, false, &twice)?, &body, &indices));
+    assert!(rt; holds(alloc, &dictionary_page(0, 1, 8), &body, &known));
+    assert!(rt; reads_places(alloc, false, &data_page(8, 2, 3), &indices, &known, &twice));
     Ok(())
 }
 
@@ -228,131 +196,70 @@ fn dictionaries_that_pay(rt: HostRuntime) -> Result<(), Fail> {
     assert!(rt; bodies(alloc, false, &apart)?.is_none());
     let with_null = [Datum::Long(1), Datum::Long(1), Datum::Null];
     assert_eq!(rt; count_present(&with_null), 2);
-    let written = bodies(alloc, true, &with_null)?;
-    assert!(rt;
-        are(
-            &written,
-            &[1, 0, 0, 0, 0, 0, 0, 0],
-            &[2, 0, 0, 0, 3, 3, 1, 4, 0]
-        )
-    );
+    let body = [1, 0, 0, 0, 0, 0, 0, 0];
+    let indices = [2, 0, 0, 0, 3, 3, 1, 4, 0];
+    assert!(rt; are(&bodies(alloc, true, &with_null)?, &body, &indices));
     let nulls = [Datum::Null, Datum::Null];
-    let written = bodies(alloc, true, &nulls)?;
-    assert!(rt; are(&written, &[], &[2, 0, 0, 0, 4, 0, 1]));
-    let page = data_page(8, 2, 7);
-    assert!(rt;
-        reads(
-            alloc,
-            Kind::Long,
-            true,
-            &page,
-            &[2, 0, 0, 0, 4, 0, 1],
-            Some(&[]),
-            &nulls
-        )
-    );
+    let levels = [2, 0, 0, 0, 4, 0, 1];
+    assert!(rt; are(&bodies(alloc, true, &nulls)?, &[], &levels));
+    assert!(rt; reads_places(alloc, true, &data_page(8, 2, 7), &levels, &[], &nulls));
     Ok(())
 }
 
+/// Pages whose bodies can't be read: the kind, whether the column may be null, the encoding, the number of values and the
+/// number of bytes.
+const DAMAGED: [(Kind, bool, i32, i32, i32); 5] = [
+    (Kind::Integer, false, 0, 1, 9),
+    (Kind::Integer, false, 0, 3, 8),
+    (Kind::Integer, true, 0, 1, 8),
+    (Kind::Integer, false, 8, 1, 8),
+    (Kind::Date, false, 0, 2, 8),
+];
+
 #[test]
-fn faults(rt: HostRuntime) -> Result<(), Fail> {
+fn damaged_bodies_are_refused(rt: HostRuntime) {
     let alloc = rt.alloc();
     let file = [0, 0, 0, 0, 255, 255, 255, 127];
-    let kind = PageAt {
-        head: head(3, 8),
-        body: 0,
-    };
-    assert!(rt;
-        fails(
-            alloc,
-            Kind::Integer,
-            false,
-            &kind,
-            &file,
-            &FileFault::PageKind { kind: 3 }
-        )
-    );
-    let encoded = data_page(4, 1, 8);
-    assert!(rt;
-        fails(
-            alloc,
-            Kind::Integer,
-            false,
-            &encoded,
-            &file,
-            &FileFault::Encoding { encoding: 4 }
-        )
-    );
     let damaged = FileFault::Page { at: 0 };
-    assert!(rt;
-        fails(
-            alloc,
-            Kind::Integer,
-            false,
-            &data_page(0, 1, 9),
-            &file,
-            &damaged
-        )
-    );
-    assert!(rt;
-        fails(
-            alloc,
-            Kind::Integer,
-            false,
-            &data_page(0, 3, 8),
-            &file,
-            &damaged
-        )
-    );
-    assert!(rt;
-        fails(
-            alloc,
-            Kind::Integer,
-            true,
-            &data_page(0, 1, 8),
-            &file,
-            &damaged
-        )
-    );
-    assert!(rt;
-        fails(
-            alloc,
-            Kind::Integer,
-            false,
-            &data_page(8, 1, 8),
-            &file,
-            &damaged
-        )
-    );
-    assert!(rt;
-        fails(
-            alloc,
-            Kind::Date,
-            false,
-            &data_page(0, 2, 8),
-            &file,
-            &damaged
-        )
-    );
+    for (kind, optional, encoding, count, size) in DAMAGED {
+        let page = data_page(encoding, count, size);
+        assert!(rt; fails(alloc, kind, optional, &page, &file, &damaged));
+    }
+    let no_text = [1, 0, 0, 0, 255];
     assert!(rt;
         fails(
             alloc,
             Kind::String,
             false,
             &data_page(0, 1, 5),
-            &[1, 0, 0, 0, 255],
+            &no_text,
             &damaged
         )
     );
+    let known = [Datum::Long(5)];
     let page = data_page(8, 1, 3);
-    let place = read_page(
-        alloc,
-        Kind::Long,
-        false,
-        &page,
-        &[1, 2, 1],
-        Some(&[Datum::Long(5)]),
-    );
+    let place = read_page(alloc, Kind::Long, false, &page, &[1, 2, 1], Some(&known));
     assert!(rt; matches!(place, Err(FileFault::Page { at: 0 })));
-    Ok(())
+}
+
+#[test]
+fn other_pages_are_refused(rt: HostRuntime) {
+    let alloc = rt.alloc();
+    let kind = FileFault::PageKind { kind: 3 };
+    let page = PageAt {
+        head: head(3, 8),
+        body: 0,
+    };
+    assert!(rt; fails(alloc, Kind::Integer, false, &page, &[0; 8], &kind));
+    let encoding = FileFault::Encoding { encoding: 4 };
+    assert!(rt;
+        fails(
+            alloc,
+            Kind::Integer,
+            false,
+            &data_page(4, 1, 8),
+            &[0; 8],
+            &encoding
+        )
+    );
 }

@@ -7,10 +7,8 @@ ghost use Rattle.log_actions.specs.Written.{text_of};
 ghost use Rattle.workbench.specs.Commits as spec;
 
 use crate::failed::Failed;
-use log_actions::{
-    Action, AddFile, LogFault, LogFaultKind, PartitionMap, read_commit, write_commit,
-};
-use row_base::{NoMemory, Text};
+use log_actions::{Action, AddFile, LogFault, LogFaultKind, read_commit, write_commit};
+use row_base::{Items, NoMemory, Text};
 use std::alloc::{AllocError, Global};
 
 /// Writes a commit of so many added files, and gives the number of its bytes.
@@ -67,7 +65,7 @@ fn added_file(alloc: Global, number: u32) -> Result<AddFile, NoMemory>
     Ok(AddFile {
         name: path.copy()?,
         path,
-        partition_values: PartitionMap::make(Vec::new(alloc)),
+        partition_values: Items::from_vec(Vec::new(alloc)),
         size: 99,
         modification_time: 1_700_000_000_000,
         data_change: true,

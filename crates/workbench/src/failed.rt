@@ -5,8 +5,7 @@ ghost use Rattle.workbench.specs.declared.failed.Failed.TheVariants as failed;
 use crate::words::WordsFault;
 use bit_pack::PackFault;
 use parquet_meta::FileFault;
-use row_base::NoMemory;
-use std::alloc::{AllocError, AllocFailed};
+use row_base::OutOfMemory;
 use std::io;
 use thiserror::Error;
 
@@ -31,34 +30,10 @@ pub enum Failed {
     NoMemory,
 }
 
-impl From<AllocError> for Failed {
+impl<E: OutOfMemory> From<E> for Failed {
     ghost from_gives = { λ _ e. e ≡ failed.NoMemory };
 
-    fn from(_refused: AllocError) -> Failed {
+    fn from(_refused: E) -> Failed {
         Failed::NoMemory
-    }
-}
-
-impl<T: Drop> From<AllocFailed<T>> for Failed {
-    ghost from_gives = { λ _ e. e ≡ failed.NoMemory };
-
-    fn from(_refused: AllocFailed<T>) -> Failed {
-        Failed::NoMemory
-    }
-}
-
-impl From<NoMemory> for Failed {
-    ghost from_gives = { λ _ e. e ≡ failed.NoMemory };
-
-    fn from(_refused: NoMemory) -> Failed {
-        Failed::NoMemory
-    }
-}
-
-impl From<PackFault> for Failed {
-    ghost from_gives = { λ f e. e ≡ failed.Kernel f };
-
-    fn from(fault: PackFault) -> Failed {
-        Failed::Kernel(fault)
     }
 }

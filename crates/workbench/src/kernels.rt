@@ -19,8 +19,8 @@ pub fn run(alloc: Global, kernel: Kernel, number: u32) -> Result<u64, Failed>
     ensures err { IfErr result (spec.IsFailure kernel number) }
 {
     match kernel {
-        Kernel::Unpack(width) => Ok(run_unpack(alloc, width, number)?),
-        Kernel::Pack(width) => Ok(run_pack(alloc, width, number)?),
+        Kernel::Unpack(width) => run_unpack(alloc, width, number).map_err(Failed::Kernel),
+        Kernel::Pack(width) => run_pack(alloc, width, number).map_err(Failed::Kernel),
         Kernel::LogWrite => commits::run_write(alloc, number),
         Kernel::LogRead => commits::run_read(alloc, number),
         Kernel::Parquet(step, table) => tables::run(alloc, step, table, number),
