@@ -4,6 +4,14 @@ use Rattle.serde_json.specs.Data.{Data, null, boolean, number, string, array, ob
 use Rattle.serde_json.specs.Find.{get, as_str, as_number, as_u64, as_array, as_object}
 use Rattle.json_lines.specs.declared.map.Entry.{Entry}
 
+-- a name with a text
+abbrev pub TextEntry : Type 0
+TextEntry = Entry (List ℕ)
+
+-- a name with a text, or with null
+abbrev pub NullableEntry : Type 0
+NullableEntry = Entry (Option (List ℕ))
+
 -- a number up to the limit
 abbrev pub up_to : ℕ → ℕ → Option ℕ
 up_to limit n = if nat_le n limit then Some n else None
@@ -31,18 +39,27 @@ text_or_null (array ds) = None
 text_or_null (object ms) = None
 
 -- the entries with one more, by its name; a null stands for nothing
-abbrev pub with_entry : List ℕ → Option (List ℕ) → List Entry → List Entry
+abbrev pub with_entry : List ℕ → Option (List ℕ) → List TextEntry → List TextEntry
 with_entry k None es = es
-with_entry k (Some t) es = record { key = k; value = t } ∷ es
+with_entry k (Some t) es = record { name = k; value = t } ∷ es
 
 -- the entries of an object
-abbrev pub entries_in : Members → Option (List Entry)
+abbrev pub entries_in : Members → Option (List TextEntry)
 entries_in no_members = Some []
 entries_in (member k d ms) = option_and_then (λ t. option_map (with_entry k t) (entries_in ms)) (text_or_null d)
 
 -- the same of a JSON value
-unfoldable pub as_text_map : Data → Option (List Entry)
+unfoldable pub as_text_map : Data → Option (List TextEntry)
 as_text_map d = option_and_then entries_in (as_object d)
+
+-- the entries of an object, nulls among them
+abbrev pub nullables_in : Members → Option (List NullableEntry)
+nullables_in no_members = Some []
+nullables_in (member k d ms) = option_and_then (λ t. option_map (λ es. record { name = k; value = t } ∷ es) (nullables_in ms)) (text_or_null d)
+
+-- the same of a JSON value
+unfoldable pub as_nullable_map : Data → Option (List NullableEntry)
+as_nullable_map d = option_and_then nullables_in (as_object d)
 
 -- a value that isn't null
 abbrev pub unless_null : Data → Option Data

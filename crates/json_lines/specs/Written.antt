@@ -4,6 +4,7 @@ use Rattle.serde_json.specs.Data.{Num, unsigned, negative, float, Data, null, bo
 use Rattle.serde_json.specs.View.{items_of}
 use Rattle.serde_json.specs.Written.{compact_text}
 use Rattle.json_lines.specs.declared.map.Entry.{Entry}
+use Rattle.json_lines.specs.Kinds.{TextEntry, NullableEntry}
 
 -- the members with one more, in byte order of the names, where there is a value
 unfoldable pub with_member : List ℕ → Option Data → Members → Members
@@ -18,19 +19,27 @@ integer_data n = number (unsigned n)
 abbrev pub texts_data : List (List ℕ) → Data
 texts_data ts = array (items_of (map string ts))
 
--- members with these entries put in
-abbrev pub entries_data : Members → List Entry → Members
-entries_data ms [] = ms
-entries_data ms (e ∷ es) = entries_data (put e.key (string e.value) ms) es
+-- members with these entries put in, as what is written of each value
+abbrev pub entries_data : {A : Type 0} → (A → Data) → Members → List (Entry A) → Members
+entries_data written ms [] = ms
+entries_data written ms (e ∷ es) = entries_data written (put e.name (written e.value) ms) es
+
+-- values by their names
+unfoldable pub map_data : {A : Type 0} → (A → Data) → List (Entry A) → Data
+map_data written es = object (entries_data written no_members es)
 
 -- texts by their names
-unfoldable pub text_map_data : List Entry → Data
-text_map_data es = object (entries_data no_members es)
+abbrev pub text_map_data : List TextEntry → Data
+text_map_data = map_data string
 
 -- a text, or null
 abbrev pub text_or_null_data : Option (List ℕ) → Data
 text_or_null_data None = null
 text_or_null_data (Some t) = string t
+
+-- texts and nulls by their names
+abbrev pub nullable_map_data : List NullableEntry → Data
+nullable_map_data = map_data text_or_null_data
 
 -- an object with one member, which is an object
 abbrev pub single_object : List ℕ → Members → Data

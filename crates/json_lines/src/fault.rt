@@ -2,8 +2,7 @@
 ghost use Rattle.std.specs.Prelude.{◌≡◌};
 ghost use Rattle.json_lines.specs.declared.fault.ShapeFault.TheVariants as faults;
 
-use row_base::NoMemory;
-use std::alloc::{AllocError, AllocFailed};
+use row_base::OutOfMemory;
 
 /// Why a JSON value could not be read as what is wanted.
 #[derive(Clone, Copy, Debug, Drop, PartialEq, Eq)]
@@ -14,26 +13,10 @@ pub enum ShapeFault {
     NoMemory,
 }
 
-impl From<NoMemory> for ShapeFault {
+impl<E: OutOfMemory> From<E> for ShapeFault {
     ghost from_gives = { λ _ e. e ≡ faults.NoMemory };
 
-    fn from(_refused: NoMemory) -> ShapeFault {
-        ShapeFault::NoMemory
-    }
-}
-
-impl From<AllocError> for ShapeFault {
-    ghost from_gives = { λ _ e. e ≡ faults.NoMemory };
-
-    fn from(_refused: AllocError) -> ShapeFault {
-        ShapeFault::NoMemory
-    }
-}
-
-impl<T: Drop> From<AllocFailed<T>> for ShapeFault {
-    ghost from_gives = { λ _ e. e ≡ faults.NoMemory };
-
-    fn from(_refused: AllocFailed<T>) -> ShapeFault {
+    fn from(_refused: E) -> ShapeFault {
         ShapeFault::NoMemory
     }
 }

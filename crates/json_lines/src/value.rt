@@ -1,18 +1,17 @@
 //! JSON values by their kind, read and written.
 ghost use Rattle.std.specs.Prelude.{◌≡◌, ◌^◌, ◌-◌, IfOk};
-ghost use Rattle.serde_json.specs.Data.{boolean, string, object};
+ghost use Rattle.serde_json.specs.Data.{boolean, string};
 ghost use Rattle.serde_json.specs.Find.{as_str, as_bool};
-ghost use Rattle.serde_json.specs.View.{view, members_view, items_view};
+ghost use Rattle.serde_json.specs.View.{view, items_view};
 ghost use Rattle.row_base.specs.Readings.{Gives};
 ghost use Rattle.json_lines.specs.Gives.{is_memory};
 ghost use Rattle.json_lines.specs.Kinds as spec;
-ghost use Rattle.json_lines.specs.Written.{integer_data, texts_data, text_map_data, text_or_null_data};
+ghost use Rattle.json_lines.specs.Written.{integer_data, texts_data, text_or_null_data};
 
 use crate::fault::ShapeFault;
-use crate::map::{Entry, TextMap};
 use crate::member::Member;
 use row_base::{Items, NoMemory, Text};
-use serde_json::{Map, Value, put};
+use serde_json::Value;
 use std::alloc::Global;
 
 /// A text.
@@ -124,67 +123,23 @@ impl Member for Items<Text> {
 }
 
 /// A text, or nothing for null.
-pub fn text_or_null(alloc: Global, value: &Value) -> Result<Option<Text>, ShapeFault>
-    ensures { Gives is_memory (λ x. x) result (spec.text_or_null (view value.now)) }
-{
-    match value {
-        Value::Null => Ok(None),
-        Value::String(text) => Ok(Some(Text::make(alloc, text.as_str())?)),
-        _ => Err(ShapeFault::Shape),
-    }
-}
+impl Member for Option<Text> {
+    ghost kind = { spec.text_or_null };
 
-/// The value of a text, or null.
-pub fn text_or_null_value(alloc: Global, text: &Option<Text>) -> Result<Value, NoMemory>
-    ensures { IfOk result (λ v. view v ≡ text_or_null_data text.now) }
-{
-    match text {
-        Some(text) => text.write(alloc),
-        None => Ok(Value::Null),
-    }
-}
+    ghost written = { text_or_null_data };
 
-fn entries_in(alloc: Global, members: &Map<String, Value>) -> Result<TextMap, ShapeFault>
-    ensures { Gives is_memory (λ x. x) result (spec.entries_in (members_view members.now.entries)) }
-{
-    let mut entries = Vec::new(alloc);
-    for (name, value) in members.iter() {
-        let value = text_or_null(alloc, value)?;
-        if let Some(value) = value {
-            let key = Text::make(alloc, name.as_str())?;
-            entries.push(Entry { key, value })?;
-        }
-    }
-    Ok(TextMap::make(entries))
-}
-
-#[tactic(auto, unfolding(crate::specs::Written::text_map_data))]
-fn entries_members(alloc: Global, entries: &[Entry]) -> Result<Map<String, Value>, NoMemory>
-    ensures { IfOk result (λ m. object (members_view m.entries) ≡ text_map_data entries.now) }
-{
-    let mut members = Map::new(alloc);
-    for entry in entries {
-        let value = entry.value.write(alloc)?;
-        put(&mut members, alloc, entry.key.as_str(), value)?;
-    }
-    Ok(members)
-}
-
-/// Texts by their names, in byte order of these. A null stands for nothing.
-impl Member for TextMap {
-    ghost kind = { spec.as_text_map };
-
-    ghost written = { text_map_data };
-
-    #[tactic(auto, unfolding(crate::specs::Kinds::as_text_map))]
-    fn read(alloc: Global, value: &Value) -> Result<TextMap, ShapeFault> {
-        match value.as_object() {
-            Some(members) => entries_in(alloc, members),
-            None => Err(ShapeFault::Shape),
+    fn read(alloc: Global, value: &Value) -> Result<Option<Text>, ShapeFault> {
+        match value {
+            Value::Null => Ok(None),
+            Value::String(text) => Ok(Some(Text::make(alloc, text.as_str())?)),
+            _ => Err(ShapeFault::Shape),
         }
     }
 
     fn write(&self, alloc: Global) -> Result<Value, NoMemory> {
-        Ok(Value::Object(entries_members(alloc, self.as_slice())?))
+        match self {
+            Some(text) => text.write(alloc),
+            None => Ok(Value::Null),
+        }
     }
 }

@@ -4,9 +4,8 @@ use Rattle.std.specs.Prelude.{IfSome}
 use Rattle.std.proofs.lemmas.Bool.Decides.{nat_tests}
 use Rattle.serde_json.specs.Data.{Data, boolean, string, object}
 use Rattle.serde_json.specs.Find.{as_str, as_bool}
-use Rattle.json_lines.specs.Kinds.{as_integer, as_texts, as_text_map, needed, optional}
-use Rattle.json_lines.specs.Written.{integer_data, texts_data, text_map_data}
-use Rattle.log_actions.specs.PartitionMaps.{as_partition_map, partition_data}
+use Rattle.json_lines.specs.Kinds.{as_integer, as_texts, as_text_map, as_nullable_map, needed, optional}
+use Rattle.json_lines.specs.Written.{integer_data, texts_data, text_map_data, nullable_map_data}
 use Rattle.log_actions.specs.declared.action.Protocol.{Protocol}
 use Rattle.log_actions.specs.declared.action.Format.{Format}
 use Rattle.log_actions.specs.declared.action.MetaData.{MetaData}
@@ -82,7 +81,7 @@ unfolding add_of
 add_back f h =
     let D : Data = object (members_of (add_fields f)) in
     let is_path : needed as_str (codes "path") D ≡ Some f.path = needed_in as_str (codes "path") (add_fields f) in
-    let is_partition_values : needed as_partition_map (codes "partitionValues") D ≡ Some f.partition_values = needed_in as_partition_map (codes "partitionValues") (add_fields f) ∙ values_back f.partition_values h.1 in
+    let is_partition_values : needed as_nullable_map (codes "partitionValues") D ≡ Some f.partition_values = needed_in as_nullable_map (codes "partitionValues") (add_fields f) ∙ values_back f.partition_values h.1 in
     let is_size : needed as_amount (codes "size") D ≡ Some f.size = needed_in as_amount (codes "size") (add_fields f) ∙ amount_back f.size h.2 in
     let is_modification_time : needed as_amount (codes "modificationTime") D ≡ Some f.modification_time = needed_in as_amount (codes "modificationTime") (add_fields f) ∙ amount_back f.modification_time h.3 in
     let is_data_change : needed as_bool (codes "dataChange") D ≡ Some f.data_change = needed_in as_bool (codes "dataChange") (add_fields f) in
@@ -99,7 +98,7 @@ remove_back f h =
     optional_in as_amount (codes "deletionTimestamp") (remove_fields f) ∙ optional_back as_amount integer_data (Some f.deletion_timestamp) (amount_back f.deletion_timestamp h.1) in
     let is_data_change : needed as_bool (codes "dataChange") D ≡ Some f.data_change = needed_in as_bool (codes "dataChange") (remove_fields f) in
     let is_extended_file_metadata : optional as_bool (codes "extendedFileMetadata") D ≡ Some f.extended_file_metadata = optional_in as_bool (codes "extendedFileMetadata") (remove_fields f) ∙ optional_back as_bool boolean f.extended_file_metadata (flag_back f.extended_file_metadata) in
-    let is_partition_values : optional as_partition_map (codes "partitionValues") D ≡ Some f.partition_values = optional_in as_partition_map (codes "partitionValues") (remove_fields f) ∙ optional_back as_partition_map partition_data f.partition_values (if_some f.partition_values values_back h.2) in
+    let is_partition_values : optional as_nullable_map (codes "partitionValues") D ≡ Some f.partition_values = optional_in as_nullable_map (codes "partitionValues") (remove_fields f) ∙ optional_back as_nullable_map nullable_map_data f.partition_values (if_some f.partition_values values_back h.2) in
     let is_size : optional as_amount (codes "size") D ≡ Some f.size = optional_in as_amount (codes "size") (remove_fields f) ∙ optional_back as_amount integer_data f.size (if_some f.size amount_back h.3) in
     let is_tags : optional as_text_map (codes "tags") D ≡ Some f.tags = optional_in as_text_map (codes "tags") (remove_fields f) ∙ optional_back as_text_map text_map_data f.tags (if_some f.tags map_back h.4) in
     rw (is_path, h.0.named, is_time, is_data_change, is_extended_file_metadata, is_partition_values, is_size, is_tags) refl

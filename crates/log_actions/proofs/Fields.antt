@@ -4,11 +4,9 @@ use Rattle.std.specs.declared.cmp.Ordering.{Ordering}
 use Rattle.std.specs.declared.cmp.Ordering.TheVariants.{Less, Equal, Greater}
 use Rattle.std.specs.Ordering.{nat_cmp, match_ordering}
 use Rattle.std.specs.Cmp.Lexicographic.{slice_cmp}
-use Rattle.serde_json.specs.Data.{Data, string, Members, no_members, member, put}
+use Rattle.serde_json.specs.Data.{Data, Members, no_members, member, put}
 use Rattle.json_lines.specs.declared.map.Entry.{Entry}
-use Rattle.log_actions.specs.PartitionMaps.{values_data}
-use Rattle.log_actions.specs.declared.partition_map.PartitionValue.{PartitionValue}
-use Rattle.json_lines.specs.Written.{with_member, entries_data, text_or_null_data}
+use Rattle.json_lines.specs.Written.{with_member, entries_data}
 use Rattle.log_actions.specs.Written.{Fields, members_with, members_of}
 
 abbrev pub AllMembers : (Data → Type 0) → Members → Type 0
@@ -51,11 +49,7 @@ pub each_there : {A : Type 0} (P : Data → Type 0) (f : A → Data) (o : Option
 each_there P f None h = tt
 each_there P f (Some x) h = h x
 
-pub AllMembers-entries_data : (P : Data → Type 0) (ms : Members) (es : List Entry) → ((t : List ℕ) → P (string t)) → AllMembers P ms → AllMembers P (entries_data ms es)
-AllMembers-entries_data P ms [] text all = all
-AllMembers-entries_data P ms (e ∷ es) text all = AllMembers-entries_data P (put e.key (string e.value) ms) es text (AllMembers-put P e.key (string e.value) ms (text e.value) all)
-
-pub AllMembers-values_data : (P : Data → Type 0) (ms : Members) (vs : List PartitionValue) → ((t : Option (List ℕ)) → P (text_or_null_data t)) → AllMembers P ms → AllMembers P (values_data ms vs)
-AllMembers-values_data P ms [] text all = all
-AllMembers-values_data P ms (v ∷ vs) text all =
-    AllMembers-values_data P (put v.column (text_or_null_data v.value) ms) vs text (AllMembers-put P v.column (text_or_null_data v.value) ms (text v.value) all)
+pub AllMembers-entries_data : {A : Type 0} (P : Data → Type 0) (written : A → Data) (ms : Members) (es : List (Entry A)) → ((x : A) → P (written x)) → AllMembers P ms → AllMembers P (entries_data written ms es)
+AllMembers-entries_data P written ms [] each all = all
+AllMembers-entries_data P written ms (e ∷ es) each all =
+    AllMembers-entries_data P written (put e.name (written e.value) ms) es each (AllMembers-put P e.name (written e.value) ms (each e.value) all)

@@ -3,16 +3,14 @@ use Rattle.std.proofs.Common.{◌≡◌, ◌≤◌, ◌<◌, ℕ, suc, ◌^◌, 
 use Rattle.std.specs.Prelude.{IfSome}
 use Rattle.serde_json.specs.Data.{Data, boolean, string, object, Members, no_members, member, depth, items_depth, members_depth}
 use Rattle.serde_json.specs.View.{items_of}
-use Rattle.json_lines.specs.declared.map.Entry.{Entry}
-use Rattle.log_actions.specs.PartitionMaps.{partition_data}
-use Rattle.log_actions.specs.declared.partition_map.PartitionValue.{PartitionValue}
-use Rattle.json_lines.specs.Written.{integer_data, texts_data, text_map_data, text_or_null_data, single_object, FitsData, FitsItems, FitsMembers}
+use Rattle.json_lines.specs.Kinds.{TextEntry, NullableEntry}
+use Rattle.json_lines.specs.Written.{integer_data, texts_data, map_data, text_map_data, text_or_null_data, nullable_map_data, single_object, FitsData, FitsItems, FitsMembers}
 use Rattle.log_actions.specs.declared.action.Format.{Format}
 use Rattle.log_actions.specs.declared.action.Action.{Action}
 use Rattle.log_actions.specs.declared.action.Action.TheVariants.{Protocol, Meta, Add, Remove, Txn, Info, Checkpoint, Sidecar, Ignored}
 use Rattle.log_actions.specs.Written.{Fields, members_of, protocol_fields, format_fields, metadata_fields, add_fields, remove_fields, txn_fields, commit_info_fields, checkpoint_fields, sidecar_fields, action_data}
 use Rattle.log_actions.specs.Whole.{IsVersion, IsAmount, IsStamp, IsWhole}
-use Rattle.log_actions.proofs.Fields.{AllMembers, AllFields, IfThere, AllMembers-members_of, AllMembers-entries_data, AllMembers-values_data, each_there}
+use Rattle.log_actions.proofs.Fields.{AllMembers, AllFields, IfThere, AllMembers-members_of, AllMembers-entries_data, each_there}
 
 pub record Fitting (n : ℕ) (d : Data) : Type 0 where
   pub shallow : depth d ≤ n
@@ -62,17 +60,17 @@ texts_fit n ts =
     let later : items_depth (items_of (map string ts)) ≤ 0 = items.shallow in
     record { shallow = omega arith; fits = items.fits }
 
-map_fits : (n : ℕ) (es : List Entry) → Fitting (suc n) (text_map_data es)
-unfolding text_map_data
-map_fits n es = object_fits n _ (AllMembers-entries_data (Fitting n) no_members es (text_fits n) tt)
+map_fits : (n : ℕ) (es : List TextEntry) → Fitting (suc n) (text_map_data es)
+unfolding map_data
+map_fits n es = object_fits n _ (AllMembers-entries_data (Fitting n) string no_members es (text_fits n) tt)
 
 null_fits : (n : ℕ) (t : Option (List ℕ)) → Fitting n (text_or_null_data t)
 null_fits n None = record { shallow = omega arith; fits = tt }
 null_fits n (Some t) = text_fits n t
 
-values_fit : (n : ℕ) (vs : List PartitionValue) → Fitting (suc n) (partition_data vs)
-unfolding partition_data
-values_fit n vs = object_fits n _ (AllMembers-values_data (Fitting n) no_members vs (null_fits n) tt)
+values_fit : (n : ℕ) (vs : List NullableEntry) → Fitting (suc n) (nullable_map_data vs)
+unfolding map_data
+values_fit n vs = object_fits n _ (AllMembers-entries_data (Fitting n) text_or_null_data no_members vs (null_fits n) tt)
 
 fields_fit : (n : ℕ) (fs : Fields) → AllFields (Fitting n) fs → Fitting (suc n) (object (members_of fs))
 fields_fit n fs all = object_fits n (members_of fs) (AllMembers-members_of (Fitting n) fs all)
@@ -89,11 +87,11 @@ text_there o = each_there (Fitting 2) string o (text_fits 2)
 flag_there : (o : Option Bool) → IfThere (Fitting 2) (option_map boolean o)
 flag_there o = each_there (Fitting 2) boolean o (flag_fits 2)
 
-map_there : (o : Option (List Entry)) → IfThere (Fitting 2) (option_map text_map_data o)
+map_there : (o : Option (List TextEntry)) → IfThere (Fitting 2) (option_map text_map_data o)
 map_there o = each_there (Fitting 2) text_map_data o (map_fits 1)
 
-values_there : (o : Option (List PartitionValue)) → IfThere (Fitting 2) (option_map partition_data o)
-values_there o = each_there (Fitting 2) partition_data o (values_fit 1)
+values_there : (o : Option (List NullableEntry)) → IfThere (Fitting 2) (option_map nullable_map_data o)
+values_there o = each_there (Fitting 2) nullable_map_data o (values_fit 1)
 
 version_fits : (n : ℕ) → IsVersion n → Fitting 2 (integer_data n)
 version_fits n h = integer_fits 2 n (omega (arith, h))

@@ -3,15 +3,13 @@ use Rattle.std.proofs.Common.{◌≡◌, ℕ, Bool, true, false, List, [], ◌�
 use Rattle.serde_json.specs.Data.{Data, boolean, string, object, Members, no_members, member}
 use Rattle.serde_json.specs.View.{items_of}
 use Rattle.serde_json.specs.Written.{has_float, items_have_float, members_have_float}
-use Rattle.json_lines.specs.declared.map.Entry.{Entry}
-use Rattle.log_actions.specs.PartitionMaps.{partition_data}
-use Rattle.log_actions.specs.declared.partition_map.PartitionValue.{PartitionValue}
-use Rattle.json_lines.specs.Written.{integer_data, texts_data, text_map_data, text_or_null_data, single_object}
+use Rattle.json_lines.specs.Kinds.{TextEntry, NullableEntry}
+use Rattle.json_lines.specs.Written.{integer_data, texts_data, map_data, text_map_data, text_or_null_data, nullable_map_data, single_object}
 use Rattle.log_actions.specs.declared.action.Format.{Format}
 use Rattle.log_actions.specs.declared.action.Action.{Action}
 use Rattle.log_actions.specs.declared.action.Action.TheVariants.{Protocol, Meta, Add, Remove, Txn, Info, Checkpoint, Sidecar, Ignored}
 use Rattle.log_actions.specs.Written.{Fields, members_of, protocol_fields, format_fields, metadata_fields, add_fields, remove_fields, txn_fields, commit_info_fields, checkpoint_fields, sidecar_fields, action_data}
-use Rattle.log_actions.proofs.Fields.{AllMembers, AllFields, IfThere, AllMembers-members_of, AllMembers-entries_data, AllMembers-values_data, each_there}
+use Rattle.log_actions.proofs.Fields.{AllMembers, AllFields, IfThere, AllMembers-members_of, AllMembers-entries_data, each_there}
 
 abbrev pub NoFloat : Data → Type 0
 NoFloat d = has_float d ≡ false
@@ -28,17 +26,17 @@ texts_none : (ts : List (List ℕ)) → items_have_float (items_of (map string t
 texts_none [] = refl
 texts_none (t ∷ ts) = texts_none ts
 
-map_none : (es : List Entry) → NoFloat (text_map_data es)
-unfolding text_map_data
-map_none es = none_in _ (AllMembers-entries_data NoFloat no_members es (λ t. refl) tt)
+map_none : (es : List TextEntry) → NoFloat (text_map_data es)
+unfolding map_data
+map_none es = none_in _ (AllMembers-entries_data NoFloat string no_members es (λ t. refl) tt)
 
 text_none : (t : Option (List ℕ)) → NoFloat (text_or_null_data t)
 text_none None = refl
 text_none (Some t) = refl
 
-partition_none : (vs : List PartitionValue) → NoFloat (partition_data vs)
-unfolding partition_data
-partition_none vs = none_in _ (AllMembers-values_data NoFloat no_members vs text_none tt)
+partition_none : (vs : List NullableEntry) → NoFloat (nullable_map_data vs)
+unfolding map_data
+partition_none vs = none_in _ (AllMembers-entries_data NoFloat text_or_null_data no_members vs text_none tt)
 
 fields_none : (fs : Fields) → AllFields NoFloat fs → members_have_float (members_of fs) ≡ false
 fields_none fs all = none_in (members_of fs) (AllMembers-members_of NoFloat fs all)
@@ -58,11 +56,11 @@ flag_there o = each_there NoFloat boolean o (λ b. refl)
 texts_there : (o : Option (List (List ℕ))) → IfThere NoFloat (option_map texts_data o)
 texts_there o = each_there NoFloat texts_data o texts_none
 
-map_there : (o : Option (List Entry)) → IfThere NoFloat (option_map text_map_data o)
+map_there : (o : Option (List TextEntry)) → IfThere NoFloat (option_map text_map_data o)
 map_there o = each_there NoFloat text_map_data o map_none
 
-partition_there : (o : Option (List PartitionValue)) → IfThere NoFloat (option_map partition_data o)
-partition_there o = each_there NoFloat partition_data o partition_none
+partition_there : (o : Option (List NullableEntry)) → IfThere NoFloat (option_map nullable_map_data o)
+partition_there o = each_there NoFloat nullable_map_data o partition_none
 
 format_none : (f : Format) → NoFloat (object (members_of (format_fields f)))
 format_none f = fields_none (format_fields f) (map_there f.options, (refl, tt))

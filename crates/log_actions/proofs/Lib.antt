@@ -1,5 +1,4 @@
 pub mod Names
-pub mod ValueSteps
 pub mod Judging
 pub mod Fields
 pub mod Floats

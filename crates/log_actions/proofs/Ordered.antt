@@ -13,12 +13,10 @@ use Rattle.json.specs.Lex.{tokens}
 use Rattle.serde_json.specs.Data.{Num, Data, null, boolean, number, string, array, object, Items, no_items, item, Members, no_members, member, put}
 use Rattle.serde_json.specs.Find.{get, get_member}
 use Rattle.serde_json.specs.Read.{number_of, of_json, of_items, of_members, max_depth, read}
-use Rattle.json_lines.specs.declared.map.Entry.{Entry}
-use Rattle.json_lines.specs.Kinds.{as_itself, unless_null, present, text_or_null, with_entry, entries_in, as_text_map}
+use Rattle.json_lines.specs.Kinds.{as_itself, unless_null, present, text_or_null, TextEntry, with_entry, entries_in, as_text_map, nullables_in, as_nullable_map}
 use Rattle.json_lines.specs.Lines.{value_of_line, object_of_line}
 use Rattle.json_lines.specs.Single.{put_first, present_members, only_one, single_member, Named}
-use Rattle.log_actions.specs.PartitionMaps.{partition_in, as_partition_map}
-use Rattle.log_actions.specs.Whole.{IsMap, AreValues}
+use Rattle.log_actions.specs.Whole.{IsMap}
 
 -- P of what is there
 abbrev pub Each : {A : Type 0} → (A → Type 0) → Option A → Type 0
@@ -190,18 +188,18 @@ record Mapped (ms : Members) (ks : List (List ℕ)) : Type 0 where
   ascends : IsStrictlySortedBy (slice_cmp nat_cmp) ks
   over : (k : List ℕ) → Under k ms → Over k ks
 
-mapped_entry : (k : List ℕ) (d : Data) (ms : Members) (t : Option (List ℕ)) (es : List Entry) → Under k ms → Mapped ms (map (λ e. e.key) es) → Mapped (member k d ms) (map (λ e. e.key) (with_entry k t es))
+mapped_entry : (k : List ℕ) (d : Data) (ms : Members) (t : Option (List ℕ)) (es : List TextEntry) → Under k ms → Mapped ms (map (λ e. e.name) es) → Mapped (member k d ms) (map (λ e. e.name) (with_entry k t es))
 unfolding IsStrictlySortedBy
 mapped_entry k d ms None es under h = record { ascends = h.ascends; over = λ l u. h.over l u.1 }
 mapped_entry k d ms (Some t) es under h = record { ascends = (h.over k under, h.ascends); over = λ l u. (u.0, h.over l u.1) }
 
-with_text : (k : List ℕ) (d : Data) (ms : Members) (o : Option (Option (List ℕ))) → Under k ms → Each (λ es. Mapped ms (map (λ e. e.key) es)) (entries_in ms)
-    → Each (λ es. Mapped (member k d ms) (map (λ e. e.key) es)) (option_and_then (λ t. option_map (with_entry k t) (entries_in ms)) o)
+with_text : (k : List ℕ) (d : Data) (ms : Members) (o : Option (Option (List ℕ))) → Under k ms → Each (λ es. Mapped ms (map (λ e. e.name) es)) (entries_in ms)
+    → Each (λ es. Mapped (member k d ms) (map (λ e. e.name) es)) (option_and_then (λ t. option_map (with_entry k t) (entries_in ms)) o)
 with_text k d ms None under rest = tt
 with_text k d ms (Some t) under rest =
-    Each-map (λ es. Mapped ms (map (λ e. e.key) es)) (λ es. Mapped (member k d ms) (map (λ e. e.key) es)) (with_entry k t) (entries_in ms) (λ es m. mapped_entry k d ms t es under m) rest
+    Each-map (λ es. Mapped ms (map (λ e. e.name) es)) (λ es. Mapped (member k d ms) (map (λ e. e.name) es)) (with_entry k t) (entries_in ms) (λ es m. mapped_entry k d ms t es under m) rest
 
-mapped : (ms : Members) → OrderedMembers ms → Each (λ es. Mapped ms (map (λ e. e.key) es)) (entries_in ms)
+mapped : (ms : Members) → OrderedMembers ms → Each (λ es. Mapped ms (map (λ e. e.name) es)) (entries_in ms)
 unfolding IsStrictlySortedBy
 mapped no_members h = record { ascends = tt; over = λ k u. tt }
 mapped (member k d ms) h = with_text k d ms (text_or_null d) h.1 (mapped ms h.2)
@@ -213,26 +211,26 @@ map_ascends (boolean b) h = tt
 map_ascends (number n) h = tt
 map_ascends (string s) h = tt
 map_ascends (array ds) h = tt
-map_ascends (object ms) h = Each-weaken (λ es. Mapped ms (map (λ e. e.key) es)) IsMap (entries_in ms) (λ es m. m.ascends) (mapped ms h)
+map_ascends (object ms) h = Each-weaken (λ es. Mapped ms (map (λ e. e.name) es)) IsMap (entries_in ms) (λ es m. m.ascends) (mapped ms h)
 
-with_value : (k : List ℕ) (d : Data) (ms : Members) (o : Option (Option (List ℕ))) → Under k ms → Each (λ vs. Mapped ms (map (λ v. v.column) vs)) (partition_in ms)
-    → Each (λ vs. Mapped (member k d ms) (map (λ v. v.column) vs)) (option_and_then (λ t. option_map (λ vs. record { column = k; value = t } ∷ vs) (partition_in ms)) o)
+with_value : (k : List ℕ) (d : Data) (ms : Members) (o : Option (Option (List ℕ))) → Under k ms → Each (λ vs. Mapped ms (map (λ v. v.name) vs)) (nullables_in ms)
+    → Each (λ vs. Mapped (member k d ms) (map (λ v. v.name) vs)) (option_and_then (λ t. option_map (λ vs. record { name = k; value = t } ∷ vs) (nullables_in ms)) o)
 unfolding IsStrictlySortedBy
 with_value k d ms None under rest = tt
 with_value k d ms (Some t) under rest =
-    Each-map (λ vs. Mapped ms (map (λ v. v.column) vs)) (λ vs. Mapped (member k d ms) (map (λ v. v.column) vs)) (λ vs. record { column = k; value = t } ∷ vs) (partition_in ms)
+    Each-map (λ vs. Mapped ms (map (λ v. v.name) vs)) (λ vs. Mapped (member k d ms) (map (λ v. v.name) vs)) (λ vs. record { name = k; value = t } ∷ vs) (nullables_in ms)
     (λ vs m. record { ascends = (m.over k under, m.ascends); over = λ l u. (u.0, m.over l u.1) }) rest
 
-valued : (ms : Members) → OrderedMembers ms → Each (λ vs. Mapped ms (map (λ v. v.column) vs)) (partition_in ms)
+valued : (ms : Members) → OrderedMembers ms → Each (λ vs. Mapped ms (map (λ v. v.name) vs)) (nullables_in ms)
 unfolding IsStrictlySortedBy
 valued no_members h = record { ascends = tt; over = λ k u. tt }
 valued (member k d ms) h = with_value k d ms (text_or_null d) h.1 (valued ms h.2)
 
-pub values_ascend : (d : Data) → Ordered d → Each AreValues (as_partition_map d)
-unfolding as_partition_map
+pub values_ascend : (d : Data) → Ordered d → Each IsMap (as_nullable_map d)
+unfolding as_nullable_map
 values_ascend null h = tt
 values_ascend (boolean b) h = tt
 values_ascend (number n) h = tt
 values_ascend (string s) h = tt
 values_ascend (array ds) h = tt
-values_ascend (object ms) h = Each-weaken (λ vs. Mapped ms (map (λ v. v.column) vs)) AreValues (partition_in ms) (λ vs m. m.ascends) (valued ms h)
+values_ascend (object ms) h = Each-weaken (λ vs. Mapped ms (map (λ v. v.name) vs)) IsMap (nullables_in ms) (λ vs m. m.ascends) (valued ms h)

@@ -5,10 +5,9 @@ use Rattle.std.proofs.lemmas.Bool.Decides.{nat_tests}
 use Rattle.serde_json.specs.Data.{Data, null, boolean, number, string, array, object}
 use Rattle.serde_json.specs.Find.{as_str, as_bool, as_number, as_u64}
 use Rattle.row_base.specs.Readings.{◌>>=◌}
-use Rattle.json_lines.specs.Kinds.{as_itself, as_integer, up_to, as_texts, as_text_map, present, needed, optional, if_there}
+use Rattle.json_lines.specs.Kinds.{TextEntry, NullableEntry, as_itself, as_integer, up_to, as_texts, as_text_map, as_nullable_map, present, needed, optional, if_there}
 use Rattle.json_lines.specs.Lines.{object_of_line}
 use Rattle.json_lines.specs.Single.{single_member}
-use Rattle.log_actions.specs.PartitionMaps.{as_partition_map}
 use Rattle.log_actions.specs.declared.action.Format.{Format}
 use Rattle.log_actions.specs.declared.action.Protocol.{Protocol}
 use Rattle.log_actions.specs.declared.action.MetaData.{MetaData}
@@ -30,7 +29,7 @@ use Rattle.log_actions.specs.Actions.{as_version, as_amount, as_stamp, protocol_
 use Rattle.log_actions.specs.Twice.{is_twice}
 use Rattle.log_actions.specs.Commit.{or_fault, unless_unsupported, admitted, judged_member, judged_object, judged}
 use Rattle.log_actions.specs.Grammar.{Says, nothing, blank, line, Commit}
-use Rattle.log_actions.specs.Whole.{IsVersion, IsAmount, IsStamp, IsMap, AreValues, IsWhole, AreWhole, IsWritten, AreWritten}
+use Rattle.log_actions.specs.Whole.{IsVersion, IsAmount, IsStamp, IsMap, IsWhole, AreWhole, IsWritten, AreWritten}
 use Rattle.log_actions.proofs.Ordered.{Each, Each-map, Each-then, Ordered, ordered_line, ordered_single, ordered_at, map_ascends, values_ascend}
 
 -- whatever it is
@@ -81,11 +80,11 @@ maybe_amount q d o = optional_each IsAmount as_amount q d o (λ x _. integer_bou
 maybe_map : (q : List ℕ) (d : Data) → Ordered d → Each (λ y. IfSome y IsMap) (optional as_text_map q d)
 maybe_map q d o = optional_each IsMap as_text_map q d o map_ascends
 
-values_in : (q : List ℕ) (d : Data) → Ordered d → Each AreValues (needed as_partition_map q d)
-values_in q d o = needed_each AreValues as_partition_map q d o values_ascend
+values_in : (q : List ℕ) (d : Data) → Ordered d → Each IsMap (needed as_nullable_map q d)
+values_in q d o = needed_each IsMap as_nullable_map q d o values_ascend
 
-maybe_values : (q : List ℕ) (d : Data) → Ordered d → Each (λ y. IfSome y AreValues) (optional as_partition_map q d)
-maybe_values q d o = optional_each AreValues as_partition_map q d o values_ascend
+maybe_values : (q : List ℕ) (d : Data) → Ordered d → Each (λ y. IfSome y IsMap) (optional as_nullable_map q d)
+maybe_values q d o = optional_each IsMap as_nullable_map q d o values_ascend
 
 any_bind : {A B : Type 0} (Q : B → Type 0) (f : A → Option B) (o : Option A) → ((x : A) → Each Q (f x)) → Each Q (o >>= f)
 any_bind Q f o h = any_then Q f o h
@@ -129,14 +128,14 @@ protocol_sound d o =
 
 format_sound : (d : Data) → Ordered d → Each (λ f. IfSome f.options IsMap) (format_of d)
 unfolding format_of
-format_sound d o = any_bind OfFormat _ (needed as_str (codes "provider") d) (λ provider. Each-bind (λ y. IfSome y IsMap) OfFormat _ _ (λ options h. h) (maybe_map (codes "options") d o))
+format_sound d o = any_bind OfFormat _ (needed as_str (codes "provider") d) (λ provider. Each-bind (λ (y : Option (List TextEntry)). IfSome y IsMap) OfFormat _ _ (λ options h. h) (maybe_map (codes "options") d o))
 
 metadata_sound : (d : Data) → Ordered d → Each (λ m. IsWhole (actions.Meta m)) (metadata_of d)
 unfolding metadata_of
 metadata_sound d o =
     Each-bind (λ y. IfSome y IsAmount) OfMeta _ _ (λ created c. any_bind OfMeta _ (needed as_str (codes "id") d) (λ id. any_bind OfMeta _ (optional as_str (codes "name") d) (λ name. any_bind OfMeta _ (optional as_str (codes "description") d) (λ description.
     Each-bind (λ (f : Format). IfSome f.options IsMap) OfMeta _ _ (λ format f. any_bind OfMeta _ (needed as_str (codes "schemaString") d) (λ schema. any_bind OfMeta _ (needed as_texts (codes "partitionColumns") d) (λ columns.
-    Each-bind (λ y. IfSome y IsMap) OfMeta _ _ (λ configuration m. (f, c, m)) (maybe_map (codes "configuration") d o))))
+    Each-bind (λ (y : Option (List TextEntry)). IfSome y IsMap) OfMeta _ _ (λ configuration m. (f, c, m)) (maybe_map (codes "configuration") d o))))
     (needed_each (λ (f : Format). IfSome f.options IsMap) format_of (codes "format") d o format_sound)))))
     (maybe_amount (codes "createdTime") d o)
 
@@ -144,8 +143,8 @@ add_sound : (d : Data) → Ordered d → Each (λ f. IfInside f.path (IsWhole (a
 unfolding add_of
 add_sound d o =
     any_bind OfAdd _ (needed as_str (codes "path") d) (λ path. Each-bind (λ name. name_of_path path ≡ Some name) OfAdd _ _ (λ name n.
-    Each-bind AreValues OfAdd _ _ (λ values v. Each-bind IsAmount OfAdd _ _ (λ size s. Each-bind IsAmount OfAdd _ _ (λ time t. any_bind OfAdd _ (needed as_bool (codes "dataChange") d) (λ change. any_bind OfAdd _ (optional as_str (codes "stats") d) (λ stats.
-    Each-bind (λ y. IfSome y IsMap) OfAdd _ _ (λ tags m. λ inside. (record { named = n; inside = inside }, v, s, t, m)) (maybe_map (codes "tags") d o))))
+    Each-bind IsMap OfAdd _ _ (λ values v. Each-bind IsAmount OfAdd _ _ (λ size s. Each-bind IsAmount OfAdd _ _ (λ time t. any_bind OfAdd _ (needed as_bool (codes "dataChange") d) (λ change. any_bind OfAdd _ (optional as_str (codes "stats") d) (λ stats.
+    Each-bind (λ (y : Option (List TextEntry)). IfSome y IsMap) OfAdd _ _ (λ tags m. λ inside. (record { named = n; inside = inside }, v, s, t, m)) (maybe_map (codes "tags") d o))))
     (amount_in (codes "modificationTime") d o)) (amount_in (codes "size") d o)) (values_in (codes "partitionValues") d o)) (each_itself (name_of_path path)))
 
 time_or_none : (o : Option ℕ) → IfSome o IsAmount → IsAmount (unwrap_or o 0)
@@ -156,8 +155,8 @@ remove_sound : (d : Data) → Ordered d → Each (λ f. IfInside f.path (IsWhole
 unfolding remove_of
 remove_sound d o =
     any_bind OfRemove _ (needed as_str (codes "path") d) (λ path. Each-bind (λ name. name_of_path path ≡ Some name) OfRemove _ _ (λ name n.
-    Each-bind (λ y. IfSome y IsAmount) OfRemove _ _ (λ time t. any_bind OfRemove _ (needed as_bool (codes "dataChange") d) (λ change. any_bind OfRemove _ (optional as_bool (codes "extendedFileMetadata") d) (λ extended. Each-bind (λ y. IfSome y AreValues) OfRemove _ _ (λ values v. Each-bind (λ y. IfSome y IsAmount) OfRemove _ _ (λ size s.
-    Each-bind (λ y. IfSome y IsMap) OfRemove _ _ (λ tags m. λ inside. (record { named = n; inside = inside }, time_or_none time t, v, s, m)) (maybe_map (codes "tags") d o))
+    Each-bind (λ y. IfSome y IsAmount) OfRemove _ _ (λ time t. any_bind OfRemove _ (needed as_bool (codes "dataChange") d) (λ change. any_bind OfRemove _ (optional as_bool (codes "extendedFileMetadata") d) (λ extended. Each-bind (λ (y : Option (List NullableEntry)). IfSome y IsMap) OfRemove _ _ (λ values v. Each-bind (λ y. IfSome y IsAmount) OfRemove _ _ (λ size s.
+    Each-bind (λ (y : Option (List TextEntry)). IfSome y IsMap) OfRemove _ _ (λ tags m. λ inside. (record { named = n; inside = inside }, time_or_none time t, v, s, m)) (maybe_map (codes "tags") d o))
     (maybe_amount (codes "size") d o)) (maybe_values (codes "partitionValues") d o)))) (maybe_amount (codes "deletionTimestamp") d o)) (each_itself (name_of_path path)))
 
 txn_sound : (d : Data) → Ordered d → Each (λ t. IsVersion t.version) (txn_of d)
@@ -182,7 +181,7 @@ commit_info_sound d o = itself_sound d o
 
 checkpoint_sound : (d : Data) → Ordered d → Each (λ c. IsWhole (actions.Checkpoint c)) (checkpoint_of d)
 unfolding checkpoint_of
-checkpoint_sound d o = Each-bind IsVersion OfCheckpoint _ _ (λ version v. Each-bind (λ y. IfSome y IsMap) OfCheckpoint _ _ (λ tags m. (v, m)) (maybe_map (codes "tags") d o)) (version_in (codes "version") d o)
+checkpoint_sound d o = Each-bind IsVersion OfCheckpoint _ _ (λ version v. Each-bind (λ (y : Option (List TextEntry)). IfSome y IsMap) OfCheckpoint _ _ (λ tags m. (v, m)) (maybe_map (codes "tags") d o)) (version_in (codes "version") d o)
 
 sidecar_sound : (d : Data) → Ordered d → Each (λ s. IfInside s.path (IsWhole (actions.Sidecar s))) (sidecar_of d)
 unfolding sidecar_of

@@ -4,8 +4,7 @@ use Rattle.std.specs.Str.{bytes_eq}
 use Rattle.serde_json.specs.Data.{Data}
 use Rattle.serde_json.specs.Find.{as_str, as_bool}
 use Rattle.row_base.specs.Readings.{◌>>=◌}
-use Rattle.json_lines.specs.Kinds.{as_itself, as_integer, as_texts, as_text_map, present, needed, optional}
-use Rattle.log_actions.specs.PartitionMaps.{as_partition_map}
+use Rattle.json_lines.specs.Kinds.{as_itself, as_integer, as_texts, as_text_map, as_nullable_map, present, needed, optional}
 use Rattle.log_actions.specs.Paths.{name_of_path, is_absolute}
 use Rattle.log_actions.specs.declared.action.Protocol.{Protocol}
 use Rattle.log_actions.specs.declared.action.Format.{Format}
@@ -69,7 +68,7 @@ unfoldable pub add_of : Data → Option AddFile
 add_of d =
     needed as_str (codes "path") d >>= λ path.
     name_of_path path >>= λ name.
-    needed as_partition_map (codes "partitionValues") d >>= λ values.
+    needed as_nullable_map (codes "partitionValues") d >>= λ values.
     needed as_amount (codes "size") d >>= λ size.
     needed as_amount (codes "modificationTime") d >>= λ time.
     needed as_bool (codes "dataChange") d >>= λ change.
@@ -85,7 +84,7 @@ remove_of d =
     optional as_amount (codes "deletionTimestamp") d >>= λ time.
     needed as_bool (codes "dataChange") d >>= λ change.
     optional as_bool (codes "extendedFileMetadata") d >>= λ extended.
-    optional as_partition_map (codes "partitionValues") d >>= λ values.
+    optional as_nullable_map (codes "partitionValues") d >>= λ values.
     optional as_amount (codes "size") d >>= λ size.
     optional as_text_map (codes "tags") d >>= λ tags.
     Some (record { path = path; name = name; deletion_timestamp = unwrap_or time 0; data_change = change; extended_file_metadata = extended; partition_values = values; size = size; tags = tags })

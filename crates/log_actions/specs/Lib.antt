@@ -1,4 +1,3 @@
-pub mod PartitionMaps
 pub mod Paths
 pub mod Actions
 pub mod Twice

@@ -4,7 +4,6 @@ use Rattle.std.specs.Ordering.{nat_cmp}
 use Rattle.std.specs.Cmp.Lexicographic.{slice_cmp}
 use Rattle.std.specs.List.Sorted.{IsStrictlySortedBy}
 use Rattle.json_lines.specs.declared.map.Entry.{Entry}
-use Rattle.log_actions.specs.declared.partition_map.PartitionValue.{PartitionValue}
 use Rattle.log_actions.specs.declared.action.Action.{Action}
 use Rattle.log_actions.specs.declared.action.Action.TheVariants.{Protocol, Meta, Add, Remove, Txn, Info, Checkpoint, Sidecar, Ignored}
 use Rattle.log_actions.specs.Paths.{name_of_path, is_absolute}
@@ -27,12 +26,8 @@ abbrev pub IsStamp : ℕ → Type 0
 IsStamp n = n ≤ 2 ^ 62
 
 -- names in byte order, each once
-abbrev pub IsMap : List Entry → Type 0
-IsMap es = IsStrictlySortedBy (slice_cmp nat_cmp) (map (λ e. e.key) es)
-
--- columns in byte order of their names, each once
-abbrev pub AreValues : List PartitionValue → Type 0
-AreValues vs = IsStrictlySortedBy (slice_cmp nat_cmp) (map (λ v. v.column) vs)
+abbrev pub IsMap : {A : Type 0} → List (Entry A) → Type 0
+IsMap es = IsStrictlySortedBy (slice_cmp nat_cmp) (map (λ e. e.name) es)
 
 -- a path below the table's folder, and its name
 pub record IsPath (path name : List ℕ) : Type 0 where
@@ -43,8 +38,8 @@ pub record IsPath (path name : List ℕ) : Type 0 where
 abbrev pub IsWhole : Action → Type 0
 IsWhole (Protocol p) = IsVersion p.min_reader_version × IsVersion p.min_writer_version
 IsWhole (Meta m) = IfSome m.format.options IsMap × IfSome m.created_time IsAmount × IfSome m.configuration IsMap
-IsWhole (Add f) = IsPath f.path f.name × AreValues f.partition_values × IsAmount f.size × IsAmount f.modification_time × IfSome f.tags IsMap
-IsWhole (Remove f) = IsPath f.path f.name × IsAmount f.deletion_timestamp × IfSome f.partition_values AreValues × IfSome f.size IsAmount × IfSome f.tags IsMap
+IsWhole (Add f) = IsPath f.path f.name × IsMap f.partition_values × IsAmount f.size × IsAmount f.modification_time × IfSome f.tags IsMap
+IsWhole (Remove f) = IsPath f.path f.name × IsAmount f.deletion_timestamp × IfSome f.partition_values IsMap × IfSome f.size IsAmount × IfSome f.tags IsMap
 IsWhole (Txn t) = IsVersion t.version × (t.last_updated ≡ None)
 IsWhole (Info i) = IfSome i.timestamp IsStamp × IfSome i.read_version IsVersion
 IsWhole (Checkpoint c) = IsVersion c.version × IfSome c.tags IsMap

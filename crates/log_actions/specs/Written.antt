@@ -2,8 +2,7 @@
 use Rattle.std.specs.Prelude.{ℕ, List, [], ◌∷◌, codes, Option, Some, None, option_map}
 use Rattle.std.specs.List.{flat_map}
 use Rattle.serde_json.specs.Data.{Data, boolean, string, object, Members, no_members}
-use Rattle.json_lines.specs.Written.{with_member, integer_data, texts_data, text_map_data, single_object, line_text}
-use Rattle.log_actions.specs.PartitionMaps.{partition_data}
+use Rattle.json_lines.specs.Written.{with_member, integer_data, texts_data, text_map_data, nullable_map_data, single_object, line_text}
 use Rattle.log_actions.specs.declared.action.Protocol.{Protocol}
 use Rattle.log_actions.specs.declared.action.Format.{Format}
 use Rattle.log_actions.specs.declared.action.MetaData.{MetaData}
@@ -63,7 +62,7 @@ abbrev pub add_fields : AddFile → Fields
 add_fields f =
     (codes "dataChange", Some (boolean f.data_change))
     ∷ (codes "modificationTime", Some (integer_data f.modification_time))
-    ∷ (codes "partitionValues", Some (partition_data f.partition_values))
+    ∷ (codes "partitionValues", Some (nullable_map_data f.partition_values))
     ∷ (codes "path", Some (string f.path))
     ∷ (codes "size", Some (integer_data f.size))
     ∷ (codes "stats", option_map string f.stats)
@@ -76,7 +75,7 @@ remove_fields f =
     (codes "dataChange", Some (boolean f.data_change))
     ∷ (codes "deletionTimestamp", Some (integer_data f.deletion_timestamp))
     ∷ (codes "extendedFileMetadata", option_map boolean f.extended_file_metadata)
-    ∷ (codes "partitionValues", option_map partition_data f.partition_values)
+    ∷ (codes "partitionValues", option_map nullable_map_data f.partition_values)
     ∷ (codes "path", Some (string f.path))
     ∷ (codes "size", option_map integer_data f.size)
     ∷ (codes "tags", option_map text_map_data f.tags)

@@ -1,8 +1,10 @@
 //! The actions and their members (PROTOCOL.md, "Actions").
 
-use crate::partition_map::PartitionMap;
-use json_lines::TextMap;
+use json_lines::{NullableMap, TextMap};
 use row_base::{Items, Text};
+
+/// The values of a file's partition columns by the names of these: texts and nulls, in byte order of the names.
+pub type PartitionMap = NullableMap;
 
 /// The versions of the protocol that reading and writing the table need, and its features (PROTOCOL.md, "Protocol
 /// Evolution").

@@ -9,18 +9,16 @@ mod fault;
 mod line;
 mod name;
 mod named;
-mod partition_map;
 mod path;
 mod read;
 mod write;
 
 pub use action::{
-    Action, AddFile, CheckpointMetadata, CommitInfo, Format, MetaData, Protocol, RemoveFile,
-    Sidecar, Txn,
+    Action, AddFile, CheckpointMetadata, CommitInfo, Format, MetaData, PartitionMap, Protocol,
+    RemoveFile, Sidecar, Txn,
 };
 pub use commit::{MAX_COMMIT_BYTES, commits_are_whole, read_commit};
 pub use fault::{Feature, LogFault, LogFaultKind};
-pub use json_lines::{Entry, TextMap};
-pub use partition_map::{PartitionMap, PartitionValue};
+pub use json_lines::{Entry, TextMap, TryCopy};
 pub use path::is_absolute;
 pub use write::write_commit;

@@ -1,7 +1,6 @@
 //! Actions read from the members of JSON objects.
 ghost use Rattle.std.specs.Prelude.{◌≡◌, IfOk};
 ghost use Rattle.serde_json.specs.Data.{object};
-ghost use Rattle.serde_json.specs.Find.{as_str, as_bool};
 ghost use Rattle.serde_json.specs.View.{view};
 ghost use Rattle.row_base.specs.Readings.{Gives};
 ghost use Rattle.json_lines.specs.Gives.{is_memory};
@@ -153,12 +152,12 @@ fn read_txn(alloc: Global, body: &Value) -> Result<Txn, ShapeFault>
     })
 }
 
-/// A text, where the member is one.
-fn text_if_one(alloc: Global, body: &Value, name: &str) -> Result<Option<Text>, NoMemory>
-    ensures { IfOk result (λ o. o ≡ spec_needed as_str name.now (view body.now)) }
+/// What a member stands for, where it is there and has its kind.
+fn if_one<M: Member>(alloc: Global, body: &Value, name: &str) -> Result<Option<M>, NoMemory>
+    ensures { IfOk result (λ o. o ≡ spec_needed M.kind name.now (view body.now)) }
 {
     match needed(alloc, body, name) {
-        Ok(text) => Ok(Some(text)),
+        Ok(value) => Ok(Some(value)),
         Err(ShapeFault::Shape) => Ok(None),
         Err(ShapeFault::NoMemory) => Err(NoMemory),
     }
@@ -175,27 +174,16 @@ fn integer_if_one(body: &Value, name: &str, limit: u64) -> Result<Option<u64>, N
     }
 }
 
-/// A truth value, where the member is one.
-fn flag_if_one(alloc: Global, body: &Value, name: &str) -> Result<Option<bool>, NoMemory>
-    ensures { IfOk result (λ o. o ≡ spec_needed as_bool name.now (view body.now)) }
-{
-    match needed(alloc, body, name) {
-        Ok(flag) => Ok(Some(flag)),
-        Err(ShapeFault::Shape) => Ok(None),
-        Err(ShapeFault::NoMemory) => Err(NoMemory),
-    }
-}
-
 #[tactic(auto, unfolding(crate::specs::Actions::said_in))]
 fn read_said(alloc: Global, body: &Value) -> Result<CommitInfo, NoMemory>
     ensures { IfOk result (λ i. i ≡ spec.said_in (view body.now)) }
 {
     let timestamp = integer_if_one(body, "timestamp", MAX_STAMP)?;
-    let operation = text_if_one(alloc, body, "operation")?;
+    let operation = if_one(alloc, body, "operation")?;
     let read_version = integer_if_one(body, "readVersion", u64::MAX)?;
-    let isolation_level = text_if_one(alloc, body, "isolationLevel")?;
-    let is_blind_append = flag_if_one(alloc, body, "isBlindAppend")?;
-    let txn_id = text_if_one(alloc, body, "txnId")?;
+    let isolation_level = if_one(alloc, body, "isolationLevel")?;
+    let is_blind_append = if_one(alloc, body, "isBlindAppend")?;
+    let txn_id = if_one(alloc, body, "txnId")?;
     Ok(CommitInfo {
         timestamp,
         operation,

@@ -1,6 +1,6 @@
 //! Texts from outside: commits written by hand, foreign and damaged lines.
 
-use log_actions::{Action, LogFaultKind, is_absolute, read_commit, write_commit};
+use log_actions::{Action, LogFaultKind, TryCopy, is_absolute, read_commit, write_commit};
 use row_base::NoMemory;
 use std::alloc::Global;
 use std::test::Fail;
@@ -86,7 +86,7 @@ fn copied(alloc: Global, text: &str) -> Result<Vec<u8>, NoMemory> {
     match read_commit(alloc, text.as_bytes()) {
         Ok(actions) => {
             for action in &actions {
-                copies.push(action.copy(alloc)?)?;
+                copies.push(action.try_copy(alloc)?)?;
             }
         }
         Err(_) => {}

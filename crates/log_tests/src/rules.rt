@@ -1,7 +1,7 @@
 //! Texts from outside: names, protocols and properties of tables.
 
 use edge_api::{Name, Tag};
-use log_actions::{Entry, Feature, Format, MetaData, Protocol, TextMap};
+use log_actions::{Entry, Feature, Format, MetaData, Protocol};
 use row_base::{Items, NoMemory, Text};
 use std::alloc::Global;
 use std::test::Fail;
@@ -180,7 +180,7 @@ fn metadata(alloc: Global, properties: &[(&str, &str)]) -> Result<MetaData, NoMe
     let mut entries = Vec::new(alloc);
     for (key, value) in properties {
         entries.push(Entry {
-            key: Text::make(alloc, key)?,
+            name: Text::make(alloc, key)?,
             value: Text::make(alloc, value)?,
         })?;
     }
@@ -195,7 +195,7 @@ fn metadata(alloc: Global, properties: &[(&str, &str)]) -> Result<MetaData, NoMe
         schema_string: Text::make(alloc, "")?,
         partition_columns: Items::from_vec(Vec::new(alloc)),
         created_time: None,
-        configuration: Some(TextMap::make(entries)),
+        configuration: Some(Items::from_vec(entries)),
     })
 }
 

@@ -1,7 +1,7 @@
 //! Texts from outside: schemas written by hand, foreign and damaged ones, and values of partition columns.
 
-use log_actions::{PartitionMap, PartitionValue};
-use row_base::{NoMemory, Schema, Text};
+use log_actions::{Entry, PartitionMap};
+use row_base::{Items, NoMemory, Schema, Text};
 use schema_text::{SchemaTextFault, read_partition, read_schema, write_partition, write_schema};
 use std::alloc::Global;
 use std::test::Fail;
@@ -139,10 +139,10 @@ const PARTED: &str =
 
 fn map_of(alloc: Global, column: &str, text: &str) -> Result<PartitionMap, NoMemory> {
     let mut values = Vec::new(alloc);
-    let column = Text::make(alloc, column)?;
+    let name = Text::make(alloc, column)?;
     let value = Some(Text::make(alloc, text)?);
-    values.push(PartitionValue { column, value })?;
-    Ok(PartitionMap::make(values))
+    values.push(Entry { name, value })?;
+    Ok(Items::from_vec(values))
 }
 
 fn parted(alloc: Global) -> Result<Schema, SchemaTextFault> {
@@ -188,7 +188,7 @@ fn value_rewritten(alloc: Global, text: &str) -> Result<Text, SchemaTextFault> {
     let written = write_partition(alloc, &schema, &row)?;
     match written.as_slice() {
         [
-            PartitionValue {
+            Entry {
                 value: Some(text),
                 ..
             },

@@ -3,7 +3,7 @@ use Rattle.std.proofs.Common.{◌≡◌, ℕ, ◌+◌, ◌==◌, Bool, true, fal
 use Rattle.std.specs.List.{list_any, All}
 use Rattle.std.specs.Str.{bytes_eq}
 use Rattle.std.proofs.lemmas.List.Elements.{All-cons, All-nil}
-use Rattle.log_actions.specs.declared.partition_map.PartitionValue.{PartitionValue}
+use Rattle.json_lines.specs.Kinds.{NullableEntry}
 use Rattle.row_base.specs.declared.row.Datum.{Datum}
 use Rattle.row_base.specs.declared.row.Datum.TheVariants as datum
 use Rattle.row_base.specs.declared.row.Kind.{Kind}
@@ -57,7 +57,7 @@ some_value name (Some x) d e = cc
 inner : (r : Result Datum SchemaTextFault) (x d : Datum) → r ≡ Ok x → r ≡ Ok d → x ≡ d
 inner r x d e f = cc
 
-of_cell : (p : List ℕ) (values : List PartitionValue) (k : ℕ) (c : Column) (d : Datum) → cell p values k c ≡ Ok d → HasText d
+of_cell : (p : List ℕ) (values : List NullableEntry) (k : ℕ) (c : Column) (d : Datum) → cell p values k c ≡ Ok d → HasText d
 unfolding datum_in
 of_cell p values k c d e = by (list_any (λ n. n == k) p) refl
   where
@@ -74,10 +74,10 @@ both (Err f) rs ds e first rest = cc
 both (Ok d) (Err f) ds e first rest = cc
 both (Ok d) (Ok es) ds e first rest = let same : d ∷ es ≡ ds = cc in subst (All HasText) same (All-cons HasText d es (first d refl) (rest es refl))
 
-of_cells : (p : List ℕ) (values : List PartitionValue) (k : ℕ) (cs : List Column) (ds : List Datum) → cells p values k cs ≡ Ok ds → All HasText ds
+of_cells : (p : List ℕ) (values : List NullableEntry) (k : ℕ) (cs : List Column) (ds : List Datum) → cells p values k cs ≡ Ok ds → All HasText ds
 of_cells p values k [] ds e = let same : [] ≡ ds = cc in subst (All HasText) same (All-nil HasText)
 of_cells p values k (c ∷ cs) ds e = both (cell p values k c) (cells p values (k + 1) cs) ds e (of_cell p values k c) (of_cells p values (k + 1) cs)
 
-pub row_has_texts : (s : TableSchema) (values : List PartitionValue) (row : List Datum) → partition_row s values ≡ Ok row → All HasText row
+pub row_has_texts : (s : TableSchema) (values : List NullableEntry) (row : List Datum) → partition_row s values ≡ Ok row → All HasText row
 unfolding partition_row
 row_has_texts s values row e = of_cells s.partition values 0 s.columns row e

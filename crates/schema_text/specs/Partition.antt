@@ -3,7 +3,7 @@ use Rattle.std.specs.Prelude.{ℕ, ◌+◌, ◌==◌, nat_le, Bool, true, false,
 use Rattle.std.specs.List.{list_any}
 use Rattle.std.specs.Str.{bytes_eq}
 use Rattle.std.specs.Cmp.Lexicographic.{pointwise}
-use Rattle.log_actions.specs.declared.partition_map.PartitionValue.{PartitionValue}
+use Rattle.json_lines.specs.Kinds.{NullableEntry}
 use Rattle.row_base.specs.declared.row.Datum.{Datum}
 use Rattle.row_base.specs.declared.row.Datum.TheVariants as datum
 use Rattle.row_base.specs.declared.row.Kind.{Kind}
@@ -65,9 +65,9 @@ filled (Some []) = None
 filled (Some (b ∷ bs)) = Some (b ∷ bs)
 
 -- the text of the column of this name, where it isn't null; a column without a value is null
-abbrev pub text_of : List PartitionValue → List ℕ → Option (List ℕ)
+abbrev pub text_of : List NullableEntry → List ℕ → Option (List ℕ)
 text_of [] name = None
-text_of (v ∷ vs) name = if pointwise ◌==◌ v.column name then filled v.value else text_of vs name
+text_of (v ∷ vs) name = if pointwise ◌==◌ v.name name then filled v.value else text_of vs name
 
 -- the datum that a column has by a text, or by none
 abbrev pub datum_by : Column → Option (List ℕ) → Option Datum
@@ -80,15 +80,15 @@ or_value name None = Err (faults.Value name)
 or_value name (Some d) = Ok d
 
 -- the datum of a partition column
-unfoldable pub datum_in : List PartitionValue → Column → Result Datum SchemaTextFault
+unfoldable pub datum_in : List NullableEntry → Column → Result Datum SchemaTextFault
 datum_in values c = or_value c.name (datum_by c (text_of values c.name))
 
 -- the datum of the column at this place, which is null in a column that isn't a partition column
-abbrev pub cell : List ℕ → List PartitionValue → ℕ → Column → Result Datum SchemaTextFault
+abbrev pub cell : List ℕ → List NullableEntry → ℕ → Column → Result Datum SchemaTextFault
 cell partition values place c = if list_any (λ p. p == place) partition then datum_in values c else Ok datum.Null
 
 -- the data of the columns from this place on
-abbrev pub cells : List ℕ → List PartitionValue → ℕ → List Column → Result (List Datum) SchemaTextFault
+abbrev pub cells : List ℕ → List NullableEntry → ℕ → List Column → Result (List Datum) SchemaTextFault
 cells partition values place [] = Ok []
 cells partition values place (c ∷ cs) =
     cell partition values place c >>= λ d.
@@ -96,5 +96,5 @@ cells partition values place (c ∷ cs) =
     Ok (d ∷ ds)
 
 -- the row that the values stand for, or the first column whose value has no reading
-unfoldable pub partition_row : TableSchema → List PartitionValue → Result (List Datum) SchemaTextFault
+unfoldable pub partition_row : TableSchema → List NullableEntry → Result (List Datum) SchemaTextFault
 partition_row s values = cells s.partition values 0 s.columns

@@ -5,7 +5,7 @@ use Rattle.std.specs.Cmp.Lexicographic.{slice_cmp}
 use Rattle.std.specs.Fmt.{signed_decimal}
 use Rattle.std.specs.List.{list_any}
 use Rattle.std.specs.Ordering.{nat_cmp}
-use Rattle.log_actions.specs.declared.partition_map.PartitionValue.{PartitionValue}
+use Rattle.json_lines.specs.Kinds.{NullableEntry}
 use Rattle.row_base.specs.declared.row.Datum.{Datum}
 use Rattle.row_base.specs.declared.row.Datum.TheVariants as datum
 use Rattle.row_base.specs.declared.schema.Column.{Column}
@@ -48,15 +48,15 @@ texts_from partition row place (c ∷ cs) ts =
     (if list_any (λ p. p == place) partition then insert_entry (slice_cmp nat_cmp) ts c.name (datum_text (datum_at row place)) else ts)
 
 -- the value that a text is
-abbrev pub value_of : List ℕ × List ℕ → PartitionValue
-value_of t = record { column = t.0; value = Some t.1 }
+abbrev pub value_of : List ℕ × List ℕ → NullableEntry
+value_of t = record { name = t.0; value = Some t.1 }
 
 -- the values that texts are
-abbrev pub values_of : Texts → List PartitionValue
+abbrev pub values_of : Texts → List NullableEntry
 values_of ts = map value_of ts
 
 -- the values of a row's partition columns, in byte order of the columns' names
-unfoldable pub partition_values : TableSchema → List Datum → List PartitionValue
+unfoldable pub partition_values : TableSchema → List Datum → List NullableEntry
 partition_values s row = values_of (texts_from s.partition row 0 s.columns [])
 
 -- some text, or none, stands for the datum in this column

@@ -106,7 +106,7 @@ fn text_of<'a>(values: &'a PartitionMap, name: &Text) -> Option<&'a Text>
     ensures { option_map (λ t. t.now) result ≡ spec.text_of values.now name.now }
 {
     for value in values.as_slice() {
-        if value.column == *name {
+        if value.name == *name {
             return filled(&value.value);
         }
     }

@@ -5,8 +5,8 @@ ghost use Rattle.row_base.specs.Schema.{IsSchema};
 ghost use Rattle.schema_text.specs.Partition.{partition_row};
 ghost use Rattle.schema_text.specs.PartitionWritten as spec;
 
-use log_actions::{PartitionMap, PartitionValue};
-use row_base::{Datum, NoMemory, Row, Schema, Text, write_date};
+use log_actions::{Entry, PartitionMap};
+use row_base::{Datum, Items, NoMemory, Row, Schema, Text, write_date};
 use std::alloc::Global;
 use std::collections::BTreeMap;
 
@@ -61,11 +61,11 @@ fn values_of(alloc: Global, texts: &BTreeMap<Text, Text>) -> Result<PartitionMap
 {
     let mut values = Vec::new(alloc);
     for (name, text) in texts.iter() {
-        let column = name.copy()?;
+        let name = name.copy()?;
         let value = Some(text.copy()?);
-        values.push(PartitionValue { column, value })?;
+        values.push(Entry { name, value })?;
     }
-    Ok(PartitionMap::make(values))
+    Ok(Items::from_vec(values))
 }
 
 /// The values of the partition columns of a row, in byte order of the columns' names; null is the empty text, and so

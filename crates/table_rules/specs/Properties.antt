@@ -5,7 +5,7 @@ use Rattle.std.specs.Str.{bytes_eq}
 use Rattle.std.specs.Ordering.{nat_cmp}
 use Rattle.std.specs.Cmp.Lexicographic.{slice_cmp}
 use Rattle.std.specs.declared.cmp.Ordering.TheVariants.{Greater}
-use Rattle.json_lines.specs.declared.map.Entry.{Entry}
+use Rattle.json_lines.specs.Kinds.{TextEntry}
 use Rattle.log_actions.specs.declared.action.MetaData.{MetaData}
 use Rattle.log_actions.specs.declared.fault.Feature.{Feature}
 use Rattle.log_actions.specs.declared.fault.Feature.TheVariants as feature
@@ -35,8 +35,8 @@ abbrev pub append_only_in : List ℕ → Option Bool
 append_only_in text = if bytes_eq text (codes "false") then Some false else None
 
 -- the property of this key, where it is set
-unfoldable pub entry_of : List ℕ → List Entry → Option Entry
-entry_of key configuration = find (λ e. bytes_eq e.key key) configuration
+unfoldable pub entry_of : List ℕ → List TextEntry → Option TextEntry
+entry_of key configuration = find (λ e. bytes_eq e.name key) configuration
 
 -- the value of the property with this key, or that it is not supported
 abbrev pub or_refused : {A : Type 0} → List ℕ → Option A → Result A Feature
@@ -44,32 +44,32 @@ or_refused key None = Err (feature.Property key)
 or_refused key (Some x) = Ok x
 
 -- what a property says: its default where it isn't set. A text that is none of its values is refused by the key
-abbrev pub value_of : {A : Type 0} → (List ℕ → Option A) → A → Option Entry → Result A Feature
+abbrev pub value_of : {A : Type 0} → (List ℕ → Option A) → A → Option TextEntry → Result A Feature
 value_of read default None = Ok default
-value_of read default (Some e) = or_refused e.key (read e.value)
+value_of read default (Some e) = or_refused e.name (read e.value)
 
 -- `delta.isolationLevel`
-abbrev pub level_of : List Entry → Result Level Feature
+abbrev pub level_of : List TextEntry → Result Level Feature
 level_of configuration = value_of level_in WriteSerializable (entry_of (codes "delta.isolationLevel") configuration)
 
 -- `delta.checkpointInterval`
-abbrev pub checkpoint_interval_of : List Entry → Result ℕ Feature
+abbrev pub checkpoint_interval_of : List TextEntry → Result ℕ Feature
 checkpoint_interval_of configuration = value_of checkpoint_interval_in 10 (entry_of (codes "delta.checkpointInterval") configuration)
 
 -- `delta.appendOnly`
-abbrev pub append_only_of : List Entry → Result Bool Feature
+abbrev pub append_only_of : List TextEntry → Result Bool Feature
 append_only_of configuration = value_of append_only_in false (entry_of (codes "delta.appendOnly") configuration)
 
 -- a week
-abbrev pub retention_of : List Entry → Result ℕ Feature
+abbrev pub retention_of : List TextEntry → Result ℕ Feature
 retention_of configuration = value_of interval_in 604800000 (entry_of (codes "delta.deletedFileRetentionDuration") configuration)
 
 -- thirty days
-abbrev pub log_retention_of : List Entry → Result ℕ Feature
+abbrev pub log_retention_of : List TextEntry → Result ℕ Feature
 log_retention_of configuration = value_of interval_in 2592000000 (entry_of (codes "delta.logRetentionDuration") configuration)
 
 -- the properties are looked at in byte order of their keys, and the first that is refused is named
-abbrev pub rules_in : List Entry → Result Rules Feature
+abbrev pub rules_in : List TextEntry → Result Rules Feature
 rules_in configuration =
     append_only_of configuration >>= λ append_only.
     checkpoint_interval_of configuration >>= λ interval.
@@ -79,7 +79,7 @@ rules_in configuration =
     Ok (record { level = level; retention = retention; interval = interval; append_only = append_only })
 
 -- a table without a configuration sets no property
-abbrev pub configuration_of : MetaData → List Entry
+abbrev pub configuration_of : MetaData → List TextEntry
 configuration_of meta = unwrap_or meta.configuration []
 
 -- the rules of a table
@@ -96,15 +96,15 @@ takes key text =
     else (if bytes_eq key (codes "delta.logRetentionDuration") then is_some (interval_in text) else true))))
 
 -- this property is set to a text that is none of its values
-abbrev pub IsBad : List Entry → List ℕ → Type 0
+abbrev pub IsBad : List TextEntry → List ℕ → Type 0
 IsBad configuration key = IsSomeAnd (entry_of key configuration) (λ e. takes key e.value ≡ false)
 
 -- and of all of these it has the least key in byte order
-pub record IsLeastBad (configuration : List Entry) (key : List ℕ) : Type 0 where
+pub record IsLeastBad (configuration : List TextEntry) (key : List ℕ) : Type 0 where
   pub is_bad : IsBad configuration key
   pub is_least : (other : List ℕ) → IsBad configuration other → slice_cmp nat_cmp key other ≢ Greater
 
 -- a fault names the least bad key
-abbrev pub NamesLeast : List Entry → FeatureFault → Type 0
+abbrev pub NamesLeast : List TextEntry → FeatureFault → Type 0
 NamesLeast configuration (faults.Unsupported f) = (key : List ℕ) × (f ≡ feature.Property key) × IsLeastBad configuration key
 NamesLeast configuration faults.NoMemory = Unit {0}

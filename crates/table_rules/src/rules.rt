@@ -68,25 +68,27 @@ fn append_only_in(text: &Text) -> Option<bool>
 }
 
 #[tactic(auto, unfolding(crate::specs::Properties::entry_of))]
-fn entry_of<'a>(configuration: &'a [Entry], key: &str) -> Option<&'a Entry>
+fn entry_of<'a>(configuration: &'a [Entry<Text>], key: &str) -> Option<&'a Entry<Text>>
     ensures { option_copied result ≡ spec.entry_of key.now configuration.now }
 {
-    configuration.iter().find(|entry| entry.key.as_str() == key)
+    configuration
+        .iter()
+        .find(|entry| entry.name.as_str() == key)
 }
 
 /// A property's value, where its text has one.
-fn or_refused<T: Drop>(entry: &Entry, value: Option<T>) -> Result<T, FeatureFault>
-    ensures { Judges result (spec.or_refused entry.now.key value) }
+fn or_refused<T: Drop>(entry: &Entry<Text>, value: Option<T>) -> Result<T, FeatureFault>
+    ensures { Judges result (spec.or_refused entry.now.name value) }
 {
     match value {
         Some(value) => Ok(value),
         None => Err(FeatureFault::Unsupported(Feature::Property {
-            key: entry.key.copy()?,
+            key: entry.name.copy()?,
         })),
     }
 }
 
-fn level_of(configuration: &[Entry]) -> Result<Level, FeatureFault>
+fn level_of(configuration: &[Entry<Text>]) -> Result<Level, FeatureFault>
     ensures { Judges result (spec.level_of configuration.now) }
 {
     match entry_of(configuration, "delta.isolationLevel") {
@@ -95,7 +97,7 @@ fn level_of(configuration: &[Entry]) -> Result<Level, FeatureFault>
     }
 }
 
-fn checkpoint_interval_of(configuration: &[Entry]) -> Result<u64, FeatureFault>
+fn checkpoint_interval_of(configuration: &[Entry<Text>]) -> Result<u64, FeatureFault>
     ensures { Judges result (spec.checkpoint_interval_of configuration.now) }
 {
     match entry_of(configuration, "delta.checkpointInterval") {
@@ -104,7 +106,7 @@ fn checkpoint_interval_of(configuration: &[Entry]) -> Result<u64, FeatureFault>
     }
 }
 
-fn append_only_of(configuration: &[Entry]) -> Result<bool, FeatureFault>
+fn append_only_of(configuration: &[Entry<Text>]) -> Result<bool, FeatureFault>
     ensures { Judges result (spec.append_only_of configuration.now) }
 {
     match entry_of(configuration, "delta.appendOnly") {
@@ -113,7 +115,7 @@ fn append_only_of(configuration: &[Entry]) -> Result<bool, FeatureFault>
     }
 }
 
-fn retention_of(configuration: &[Entry]) -> Result<u64, FeatureFault>
+fn retention_of(configuration: &[Entry<Text>]) -> Result<u64, FeatureFault>
     ensures { Judges result (spec.retention_of configuration.now) }
 {
     match entry_of(configuration, "delta.deletedFileRetentionDuration") {
@@ -122,7 +124,7 @@ fn retention_of(configuration: &[Entry]) -> Result<u64, FeatureFault>
     }
 }
 
-fn log_retention_of(configuration: &[Entry]) -> Result<u64, FeatureFault>
+fn log_retention_of(configuration: &[Entry<Text>]) -> Result<u64, FeatureFault>
     ensures { Judges result (spec.log_retention_of configuration.now) }
 {
     match entry_of(configuration, "delta.logRetentionDuration") {
@@ -131,7 +133,7 @@ fn log_retention_of(configuration: &[Entry]) -> Result<u64, FeatureFault>
     }
 }
 
-fn rules_in(configuration: &[Entry]) -> Result<Rules, FeatureFault>
+fn rules_in(configuration: &[Entry<Text>]) -> Result<Rules, FeatureFault>
     ensures { Judges result (spec.rules_in configuration.now) }
 {
     let append_only = append_only_of(configuration)?;

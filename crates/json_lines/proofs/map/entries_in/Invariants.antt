@@ -2,7 +2,7 @@
 use Rattle.std.proofs.Common.{◌≡◌, ◌++◌, option_map}
 use Rattle.serde_json.specs.View.{members_view}
 use Rattle.json_lines.specs.Kinds.{entries_in}
-use Rattle.json_lines.proofs.value.entries_in.Given as goal
+use Rattle.json_lines.proofs.map.entries_in.Given as goal
 
 abbrev pub invariant-loop-name : goal.invariant-loop-name
 invariant-loop-name l = option_map (λ ys. l.entries.items ++ ys) (entries_in (members_view l.name-iterator)) ≡ entries_in (members_view l.members.entries)

@@ -3,7 +3,7 @@ use Rattle.std.proofs.Common.{◌≡◌, drop}
 use Rattle.serde_json.specs.Data.{no_members}
 use Rattle.serde_json.specs.View.{members_view}
 use Rattle.json_lines.specs.Written.{entries_data}
-use Rattle.json_lines.proofs.value.entries_members.Given as goal
+use Rattle.json_lines.proofs.map.entries_members.Given as goal
 
 abbrev pub invariant-loop-entry : goal.invariant-loop-entry
-invariant-loop-entry l = entries_data (members_view l.members.entries) (drop l.entry-index l.entries) ≡ entries_data no_members l.entries
+invariant-loop-entry g l = entries_data g.V.Member.written (members_view l.members.entries) (drop l.entry-index l.entries) ≡ entries_data g.V.Member.written no_members l.entries

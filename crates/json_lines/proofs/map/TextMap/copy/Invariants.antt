@@ -1,6 +1,0 @@
-use Rattle.std.proofs.Common.{◌≡◌, take}
-use Rattle.json_lines.proofs.map.TextMap.copy.Given as goal
-
--- what was copied is the front of what is to be copied
-abbrev pub invariant-loop-entry : goal.invariant-loop-entry
-invariant-loop-entry l = l.entries.items ≡ take l.entry-index l.entry-items
