@@ -1,0 +1,1 @@
+pub use Rattle.log_actions.specs.declared.fault

@@ -5,6 +5,7 @@ mod refusal;
 mod reply;
 mod statement;
 
-pub use refusal::{Clash, Feature, LogFaultKind, ObjectFault, Refusal};
+pub use log_actions::{Feature, LogFaultKind};
+pub use refusal::{Clash, ObjectFault, Refusal};
 pub use reply::{CheckpointOutcome, Reply, SessionReplies};
 pub use statement::{Statement, TableSpec};

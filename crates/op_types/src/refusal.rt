@@ -2,27 +2,28 @@
 ghost use Rattle.std.specs.Prelude.{◌≡◌, IfOk};
 
 use edge_api::{Called, Name};
+use log_actions::{Feature, LogFaultKind};
 use row_base::NoMemory;
 
-/// How a line of a commit's text, or of a data file's, is wrong.
-#[derive(Clone, Copy, Debug, Drop, PartialEq, Eq)]
-pub enum LogFaultKind {
-    /// The line hasn't the form of such a line.
-    Shape,
-}
-
 /// Why an object's bytes have no reading.
-#[derive(Clone, Copy, Debug, Drop, PartialEq, Eq)]
+#[derive(Debug, Drop)]
 pub enum ObjectFault {
     /// The first bad line, counted from 1.
     Line { line: u32, kind: LogFaultKind },
 }
 
-/// A feature that isn't supported.
-#[derive(Clone, Copy, Debug, Drop, PartialEq, Eq)]
-pub enum Feature {
-    /// The newest version is 1,048,576 or more.
-    Versions,
+impl ObjectFault {
+    /// The same fault. The error is want of memory.
+    pub fn copy(&self) -> Result<ObjectFault, NoMemory>
+        ensures { IfOk result (λ f. f ≡ self.now) }
+    {
+        match self {
+            ObjectFault::Line { line, kind } => Ok(ObjectFault::Line {
+                line: *line,
+                kind: kind.copy()?,
+            }),
+        }
+    }
 }
 
 /// Why a commit that won stands against a statement.
@@ -86,9 +87,11 @@ impl Refusal {
             Refusal::NameTaken { name } => Ok(Refusal::NameTaken { name: name.copy()? }),
             Refusal::BadObject { name, fault } => Ok(Refusal::BadObject {
                 name: name.copy()?,
-                fault: *fault,
+                fault: fault.copy()?,
             }),
-            Refusal::Unsupported { feature } => Ok(Refusal::Unsupported { feature: *feature }),
+            Refusal::Unsupported { feature } => Ok(Refusal::Unsupported {
+                feature: feature.copy()?,
+            }),
             Refusal::Fault { call } => Ok(Refusal::Fault { call: call.copy()? }),
             Refusal::OutcomeUnknown { version } => {
                 Ok(Refusal::OutcomeUnknown { version: *version })

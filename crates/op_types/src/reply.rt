@@ -2,9 +2,8 @@
 ghost use Rattle.std.specs.Prelude.{◌≡◌, IfOk};
 
 use crate::Refusal;
-use row_base::{NoMemory, Rows};
+use row_base::{Items, NoMemory, Rows};
 use std::alloc::Global;
-use std::marker::Model;
 
 /// What became of the checkpoint after a commit.
 #[derive(Clone, Copy, Debug, Drop, PartialEq, Eq)]
@@ -82,32 +81,4 @@ impl Reply {
 }
 
 /// The replies of a session's statements, in order.
-#[derive(Drop)]
-pub struct SessionReplies {
-    replies: Vec<Reply>,
-}
-
-impl Model for SessionReplies {
-    ghost use Rattle.std.specs.Prelude.{List};
-    ghost use Rattle.op_types.specs.declared.reply.Reply.{Reply};
-
-    ghost Value = { List Reply };
-
-    ghost view = { λ r. r.replies.items };
-}
-
-impl SessionReplies {
-    /// The list of these replies. It takes no memory.
-    pub fn make(replies: Vec<Reply>) -> SessionReplies
-        ensures { result ≡ replies.items }
-    {
-        SessionReplies { replies }
-    }
-
-    /// The replies.
-    pub fn as_slice(&self) -> &[Reply]
-        ensures { result.now ≡ self.now }
-    {
-        &self.replies
-    }
-}
+pub type SessionReplies = Items<Reply>;

@@ -1,7 +1,7 @@
 -- The replies of all sessions as they are printed, a line each, and the rows that were read a line each.
 use Rattle.std.specs.Prelude.{ℕ, ◌+◌, List, [], ◌∷◌, ◌++◌, length, codes}
 use Rattle.std.specs.List.{flat_map}
-use Rattle.std.specs.Fmt.{decimal}
+use Rattle.std.specs.Fmt.{decimal, signed_decimal}
 use Rattle.edge_api.specs.declared.call.CallKind.{CallKind}
 use Rattle.edge_api.specs.declared.call.CallKind.TheVariants as kind
 use Rattle.edge_api.specs.declared.call.Called.{Called}
@@ -9,12 +9,12 @@ use Rattle.op_types.specs.declared.refusal.Refusal.{Refusal}
 use Rattle.op_types.specs.declared.refusal.Refusal.TheVariants.{NoTable, TableThere, Conflict, TooManyAttempts, Outlasted, FileGone, NameTaken, BadObject, Unsupported, Fault, OutcomeUnknown, NoMemory, LogGone, TooLarge}
 use Rattle.op_types.specs.declared.refusal.Clash.{Clash}
 use Rattle.op_types.specs.declared.refusal.Clash.TheVariants.{Protocol}
-use Rattle.op_types.specs.declared.refusal.LogFaultKind.{LogFaultKind}
-use Rattle.op_types.specs.declared.refusal.LogFaultKind.TheVariants.{Shape}
+use Rattle.op_types.specs.fault.LogFaultKind.{LogFaultKind}
+use Rattle.op_types.specs.fault.LogFaultKind.TheVariants as faults
 use Rattle.op_types.specs.declared.refusal.ObjectFault.{ObjectFault}
 use Rattle.op_types.specs.declared.refusal.ObjectFault.TheVariants.{Line}
-use Rattle.op_types.specs.declared.refusal.Feature.{Feature}
-use Rattle.op_types.specs.declared.refusal.Feature.TheVariants.{Versions}
+use Rattle.op_types.specs.fault.Feature.{Feature}
+use Rattle.op_types.specs.fault.Feature.TheVariants as features
 use Rattle.op_types.specs.declared.reply.CheckpointOutcome.{CheckpointOutcome}
 use Rattle.op_types.specs.declared.reply.CheckpointOutcome.TheVariants as outcome
 use Rattle.op_types.specs.declared.reply.Reply.{Reply}
@@ -41,14 +41,33 @@ call_text call = kind_text call.kind ++ call.name
 abbrev pub clash_text : Clash → List ℕ
 clash_text Protocol = codes " protocol"
 
-abbrev pub shape_text : LogFaultKind → List ℕ
-shape_text Shape = codes " shape"
+-- what isn't supported; a text of the log as it stands there
+abbrev pub feature_text : Feature → List ℕ
+feature_text (features.Protocol reader writer) = counted (codes "protocol ") reader ++ counted (codes " ") writer
+feature_text (features.Named name) = codes "feature " ++ name
+feature_text (features.Property key) = codes "property " ++ key
+feature_text features.AbsolutePath = codes "absolute path"
+feature_text features.DeletionVector = codes "deletion vector"
+feature_text (features.Codec codec) = codes "codec " ++ signed_decimal codec
+feature_text (features.Encoding encoding) = codes "encoding " ++ signed_decimal encoding
+feature_text (features.PageKind kind) = codes "page type " ++ signed_decimal kind
+feature_text (features.ColumnType name) = codes "column type " ++ name
+feature_text features.CheckpointForm = codes "checkpoint form"
+feature_text features.Sidecar = codes "sidecar"
+feature_text features.NestedColumns = codes "nested columns"
+feature_text features.Timestamp = codes "timestamp"
+feature_text features.Versions = codes "versions"
+
+-- how a line is wrong
+abbrev pub line_fault_text : LogFaultKind → List ℕ
+line_fault_text faults.Json = codes " json"
+line_fault_text faults.Shape = codes " shape"
+line_fault_text faults.Twice = codes " twice"
+line_fault_text (faults.Unsupported feature) = codes " unsupported " ++ feature_text feature
+line_fault_text faults.NoMemory = codes " no memory"
 
 abbrev pub fault_text : ObjectFault → List ℕ
-fault_text (Line line kind) = counted (codes " line ") line ++ shape_text kind
-
-abbrev pub feature_text : Feature → List ℕ
-feature_text Versions = codes "versions"
+fault_text (Line line kind) = counted (codes " line ") line ++ line_fault_text kind
 
 abbrev pub refusal_text : Refusal → List ℕ
 refusal_text NoTable = codes "1 no table"

@@ -1,4 +1,4 @@
-//! The replies of a run as they are printed.
+//! The replies of a run as they are printed, and the printer of such texts.
 #![tactic(auto)]
 
 mod literal;
@@ -6,4 +6,5 @@ mod printer;
 mod refusal;
 mod reply;
 
+pub use printer::Printer;
 pub use reply::print_replies;

@@ -36,7 +36,8 @@ fn push_each_escaped(out: &mut Printer, text: &[u8]) -> Result<(), NoMemory>
     Ok(())
 }
 
-fn push_quoted(out: &mut Printer, text: &[u8]) -> Result<(), NoMemory>
+/// Writes a text in quotes at the end of a text. After an error the text may have a part of it.
+pub fn push_quoted(out: &mut Printer, text: &[u8]) -> Result<(), NoMemory>
     ensures { OnOk result (out.new ≡ out.old ++ spec.quoted text.now) }
 {
     out.push(b"'")?;

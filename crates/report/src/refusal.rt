@@ -1,12 +1,13 @@
 //! Refusals.
 ghost use Rattle.std.specs.Prelude.{◌≡◌, ◌++◌, OnOk, codes};
+ghost use Rattle.std.specs.Fmt.{signed_decimal};
 ghost use Rattle.report.specs.Replies.{counted};
 ghost use Rattle.report.specs.Replies as spec;
 
 use crate::printer::Printer;
 use edge_api::{CallKind, Called, Name};
 use op_types::{Clash, Feature, LogFaultKind, ObjectFault, Refusal};
-use row_base::NoMemory;
+use row_base::{NoMemory, Text};
 
 fn push_kind(out: &mut Printer, kind: CallKind) -> Result<(), NoMemory>
     ensures { OnOk result (out.new ≡ out.old ++ spec.kind_text kind) }
@@ -38,31 +39,82 @@ fn push_clash(out: &mut Printer, clash: Clash) -> Result<(), NoMemory>
     }
 }
 
-fn push_shape(out: &mut Printer, kind: LogFaultKind) -> Result<(), NoMemory>
-    ensures { OnOk result (out.new ≡ out.old ++ spec.shape_text kind) }
+fn push_two_numbers(out: &mut Printer, word: &[u8], first: u64, second: u64) -> Result<(), NoMemory>
+    ensures { OnOk result (out.new ≡ out.old ++ (counted word.now first ++ counted (codes " ") second)) }
 {
-    match kind {
-        LogFaultKind::Shape => out.push(b" shape"),
+    out.push_counted(word, first)?;
+    out.push_counted(b" ", second)?;
+    Ok(())
+}
+
+fn push_behind_word(out: &mut Printer, word: &[u8], text: &Text) -> Result<(), NoMemory>
+    ensures { OnOk result (out.new ≡ out.old ++ (word.now ++ text.now)) }
+{
+    out.push(word)?;
+    out.push(text.as_bytes())?;
+    Ok(())
+}
+
+fn push_code(out: &mut Printer, word: &[u8], code: i32) -> Result<(), NoMemory>
+    ensures { OnOk result (out.new ≡ out.old ++ (word.now ++ signed_decimal code)) }
+{
+    out.push(word)?;
+    out.push_signed(code as i64)?;
+    Ok(())
+}
+
+fn push_feature(out: &mut Printer, feature: &Feature) -> Result<(), NoMemory>
+    ensures { OnOk result (out.new ≡ out.old ++ spec.feature_text feature.now) }
+{
+    match feature {
+        Feature::Protocol { reader, writer } => {
+            push_two_numbers(out, b"protocol ", *reader, *writer)
+        }
+        Feature::Named { name } => push_behind_word(out, b"feature ", name),
+        Feature::Property { key } => push_behind_word(out, b"property ", key),
+        Feature::AbsolutePath => out.push(b"absolute path"),
+        Feature::DeletionVector => out.push(b"deletion vector"),
+        Feature::Codec { codec } => push_code(out, b"codec ", *codec),
+        Feature::Encoding { encoding } => push_code(out, b"encoding ", *encoding),
+        Feature::PageKind { kind } => push_code(out, b"page type ", *kind),
+        Feature::ColumnType { name } => push_behind_word(out, b"column type ", name),
+        Feature::CheckpointForm => out.push(b"checkpoint form"),
+        Feature::Sidecar => out.push(b"sidecar"),
+        Feature::NestedColumns => out.push(b"nested columns"),
+        Feature::Timestamp => out.push(b"timestamp"),
+        Feature::Versions => out.push(b"versions"),
     }
 }
 
-fn push_fault(out: &mut Printer, fault: ObjectFault) -> Result<(), NoMemory>
-    ensures { OnOk result (out.new ≡ out.old ++ spec.fault_text fault) }
+fn push_word_and_feature(out: &mut Printer, word: &[u8], feature: &Feature) -> Result<(), NoMemory>
+    ensures { OnOk result (out.new ≡ out.old ++ (word.now ++ spec.feature_text feature.now)) }
+{
+    out.push(word)?;
+    push_feature(out, feature)?;
+    Ok(())
+}
+
+fn push_line_fault(out: &mut Printer, kind: &LogFaultKind) -> Result<(), NoMemory>
+    ensures { OnOk result (out.new ≡ out.old ++ spec.line_fault_text kind.now) }
+{
+    match kind {
+        LogFaultKind::Json => out.push(b" json"),
+        LogFaultKind::Shape => out.push(b" shape"),
+        LogFaultKind::Twice => out.push(b" twice"),
+        LogFaultKind::Unsupported(feature) => push_word_and_feature(out, b" unsupported ", feature),
+        LogFaultKind::NoMemory => out.push(b" no memory"),
+    }
+}
+
+fn push_fault(out: &mut Printer, fault: &ObjectFault) -> Result<(), NoMemory>
+    ensures { OnOk result (out.new ≡ out.old ++ spec.fault_text fault.now) }
 {
     match fault {
         ObjectFault::Line { line, kind } => {
-            out.push_counted(b" line ", line as u64)?;
-            push_shape(out, kind)?;
+            out.push_counted(b" line ", *line as u64)?;
+            push_line_fault(out, kind)?;
             Ok(())
         }
-    }
-}
-
-fn push_feature(out: &mut Printer, feature: Feature) -> Result<(), NoMemory>
-    ensures { OnOk result (out.new ≡ out.old ++ spec.feature_text feature) }
-{
-    match feature {
-        Feature::Versions => out.push(b"versions"),
     }
 }
 
@@ -82,32 +134,16 @@ fn push_conflict(out: &mut Printer, winner: u64, clash: Clash) -> Result<(), NoM
     Ok(())
 }
 
-fn push_times(out: &mut Printer, word: &[u8], start: u64, now: u64) -> Result<(), NoMemory>
-    ensures { OnOk result (out.new ≡ out.old ++ (counted word.now start ++ counted (codes " ") now)) }
-{
-    out.push_counted(word, start)?;
-    out.push_counted(b" ", now)?;
-    Ok(())
-}
-
 fn push_named_fault(
     out: &mut Printer,
     word: &[u8],
     name: &Name,
-    fault: ObjectFault,
+    fault: &ObjectFault,
 ) -> Result<(), NoMemory>
-    ensures { OnOk result (out.new ≡ out.old ++ (word.now ++ (name.now ++ spec.fault_text fault))) }
+    ensures { OnOk result (out.new ≡ out.old ++ (word.now ++ (name.now ++ spec.fault_text fault.now))) }
 {
     push_named(out, word, name)?;
     push_fault(out, fault)?;
-    Ok(())
-}
-
-fn push_word_and_feature(out: &mut Printer, word: &[u8], feature: Feature) -> Result<(), NoMemory>
-    ensures { OnOk result (out.new ≡ out.old ++ (word.now ++ spec.feature_text feature)) }
-{
-    out.push(word)?;
-    push_feature(out, feature)?;
     Ok(())
 }
 
@@ -128,20 +164,11 @@ pub fn push_refusal(out: &mut Printer, refusal: &Refusal) -> Result<(), NoMemory
         Refusal::TableThere => out.push(b"2 table there"),
         Refusal::Conflict { winner, clash } => push_conflict(out, *winner, *clash),
         Refusal::TooManyAttempts { lost } => out.push_counted(b"8 attempts ", *lost as u64),
-        Refusal::Outlasted { start, now } => push_times(out, b"9 outlasted ", *start, *now),
+        Refusal::Outlasted { start, now } => push_two_numbers(out, b"9 outlasted ", *start, *now),
         Refusal::FileGone { name } => push_named(out, b"10 file gone ", name),
         Refusal::NameTaken { name } => push_named(out, b"11 name taken ", name),
-        Refusal::BadObject { name, fault } => push_named_fault(
-            out,
-            b"12 bad object ",
-            name,
-            *fault,
-        ),
-        Refusal::Unsupported { feature } => push_word_and_feature(
-            out,
-            b"13 unsupported ",
-            *feature,
-        ),
+        Refusal::BadObject { name, fault } => push_named_fault(out, b"12 bad object ", name, fault),
+        Refusal::Unsupported { feature } => push_word_and_feature(out, b"13 unsupported ", feature),
         Refusal::Fault { call } => push_failed(out, call),
         Refusal::OutcomeUnknown { version } => {
             out.push_counted(b"15 outcome unknown ", *version)

@@ -1,10 +1,8 @@
 //! Printed replies by hand.
 use edge_api::{CallKind, Called, Name};
-use op_types::{
-    CheckpointOutcome, Feature, LogFaultKind, ObjectFault, Refusal, Reply, SessionReplies,
-};
+use op_types::{CheckpointOutcome, Feature, LogFaultKind, ObjectFault, Refusal, Reply};
 use report::print_replies;
-use row_base::{Datum, NoMemory, Rows, Text};
+use row_base::{Datum, Items, NoMemory, Rows, Text};
 use std::alloc::Global;
 use std::test::Fail;
 
@@ -13,8 +11,8 @@ fn printed(alloc: Global, replies: Vec<Reply>) -> Result<Vec<u8>, NoMemory> {
     let mut made = Vec::new(alloc);
     made.push(Reply::Created)?;
     let mut all = Vec::new(alloc);
-    all.push(SessionReplies::make(made))?;
-    all.push(SessionReplies::make(replies))?;
+    all.push(Items::from_vec(made))?;
+    all.push(Items::from_vec(replies))?;
     let mut names = Vec::new(alloc);
     names.push(Text::make(alloc, "a")?)?;
     print_replies(alloc, names.as_slice(), all.as_slice())
@@ -112,6 +110,37 @@ fn refusals_with_names_are_printed(rt: HostRuntime) -> Result<(), Fail> {
     let text = printed(alloc, replies)?;
     let wanted =
         b"table 1 created 0\na 1 refused 12 bad object _delta_log/00000000000000000001.json line 2 shape\na 2 refused 14 fault put new _delta_log/00000000000000000001.json\n";
+    assert!(rt; text.as_slice() == wanted.as_slice());
+    Ok(())
+}
+
+/// A reply for a feature that isn't supported.
+fn unsupported(feature: Feature) -> Reply {
+    Reply::Refused(Refusal::Unsupported { feature })
+}
+
+#[test]
+fn features_are_printed(rt: HostRuntime) -> Result<(), Fail> {
+    let alloc = rt.alloc();
+    let mut replies = Vec::new(alloc);
+    replies.push(unsupported(Feature::Protocol {
+        reader: 3,
+        writer: 8,
+    }))?;
+    replies.push(unsupported(Feature::Named {
+        name: Text::make(alloc, "columnMapping")?,
+    }))?;
+    replies.push(unsupported(Feature::Codec { codec: -1 }))?;
+    replies.push(Reply::Refused(Refusal::BadObject {
+        name: Name::make(alloc, "x")?,
+        fault: ObjectFault::Line {
+            line: 1,
+            kind: LogFaultKind::Unsupported(Feature::DeletionVector),
+        },
+    }))?;
+    let text = printed(alloc, replies)?;
+    let wanted =
+        b"table 1 created 0\na 1 refused 13 unsupported protocol 3 8\na 2 refused 13 unsupported feature columnMapping\na 3 refused 13 unsupported codec -1\na 4 refused 12 bad object x line 1 unsupported deletion vector\n";
     assert!(rt; text.as_slice() == wanted.as_slice());
     Ok(())
 }

@@ -1,6 +1,6 @@
 //! Copies of replies.
 use edge_api::{CallKind, Called, Name};
-use op_types::{Refusal, Reply, SessionReplies};
+use op_types::{Refusal, Reply};
 use row_base::{Datum, Rows};
 use std::alloc::Global;
 use std::test::Fail;
@@ -36,8 +36,5 @@ fn replies_are_copied(rt: HostRuntime) -> Result<(), Fail> {
         files_live: 1,
     };
     assert_eq!(rt; told(alloc, &selected.copy(alloc)?)?.as_str(), "1 rows");
-    let mut replies = Vec::new(alloc);
-    replies.push(selected)?;
-    assert_eq!(rt; SessionReplies::make(replies).as_slice().len(), 1);
     Ok(())
 }

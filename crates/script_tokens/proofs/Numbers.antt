@@ -1,14 +1,16 @@
--- Numbers as std's parse gives them.
-use Rattle.std.proofs.Common.{◌≡◌, ℕ, ℤ, pos, neg_ℤ, zero, suc, ◌+◌, ◌<◌, ◌≤◌, ◌^◌, true, false, List, ◌∷◌, length, take, drop, Option, Some, None, Ok, Err, refl, sym, ap, subst, ◌∙◌, arith, IsUtf8, w64}
+-- Numbers, by the number that their digits write.
+use Rattle.std.proofs.Common.{◌≡◌, ℕ, ℤ, pos, neg_ℤ, zero, suc, ◌+◌, ◌<◌, ◌^◌, ◌==◌, true, false, Bool, List, [], ◌∷◌, length, take, drop, slice_index, if◌then◌else◌, ◌&&◌, Option, Some, None, refl, sym, ap, subst, ◌∙◌, arith}
 use Rattle.std.specs.Prelude.{nat_lt, nat_le}
-use Rattle.std.specs.List.{prefix_len}
-use Rattle.std.specs.Str.{all_ascii_digits, IsAscii}
-use Rattle.std.specs.Str.Parse.{digits_value, ParsesSigned}
-use Rattle.std.proofs.lemmas.Str.{IsUtf8-from_ascii}
-use Rattle.std.proofs.lemmas.Fmt.{IsAscii-from_digits}
-use Rattle.std.proofs.lemmas.Str.Parse.{IsNumeralModel, numerals_by_value, tells_all_ascii_digits, parse_signed_digits, parse_signed_minus}
+use Rattle.std.specs.List.{prefix_len, list_all}
+use Rattle.std.specs.Char.{is_ascii_digit}
+use Rattle.std.specs.Str.{all_ascii_digits}
+use Rattle.std.specs.Str.Parse.{digits_value, signed_digits_value, without_leading_sign, without_leading_plus}
+use Rattle.std.proofs.lemmas.Str.Parse.{IsNumeralModel, numerals_by_value, tells_all_ascii_digits, digit_at, without_leading_plus_none}
+use Rattle.std.proofs.lemmas.Bool.{cond-false, and_from, lt-ltb, ne_eqb}
 use Rattle.std.proofs.lemmas.Bool.Decides.{nat_tests}
 use Rattle.std.proofs.lemmas.List.Folds.{length-prefix_len}
+use Rattle.row_base.specs.Numbers.{is_digits, is_number, is_i64, long_in}
+use Rattle.row_base.proofs.Numerals.{by_test}
 use Rattle.script_tokens.specs.declared.token.Token.TheVariants.{Number}
 use Rattle.script_tokens.specs.Words.{is_digit, is_boundary}
 use Rattle.row_base.specs.Readings.{◌>>=◌}
@@ -18,55 +20,37 @@ use Rattle.script_tokens.proofs.Runs.{run_is_run, run_of_digits, one_add}
 own : IsNumeralModel (λ ds. all_ascii_digits ds ≡ true) (digits_value 10)
 own = numerals_by_value (λ ds. all_ascii_digits ds ≡ true) tells_all_ascii_digits
 
-fits_unsigned : (ds : List ℕ) (x : ℤ) → digits_value 10 ds < 2 ^ 63 → x ≡ pos (digits_value 10 ds) → Some x ≡ unsigned_value ds
+are_digits : (ds : List ℕ) → all_ascii_digits ds ≡ true → 0 < length ds → is_digits ds ≡ true
+are_digits ds d some = and_from (nat_lt 0 (length ds)) (list_all is_ascii_digit ds) (lt-ltb 0 (length ds) some) (by_test.from ds (own.to ds d))
+
+by_value : (text : List ℕ) (z : ℤ) → is_number text ≡ true → signed_digits_value 10 text ≡ z → long_in text ≡ (if is_i64 z then Some z else None)
+unfolding long_in
+by_value text z is value =
+    ap (λ b. if b && is_i64 (signed_digits_value 10 text) then Some (signed_digits_value 10 text) else None) is
+    ∙ ap (λ (y : ℤ). if is_i64 y then Some y else None) value
+
+pub plain_long : (ds : List ℕ) → all_ascii_digits ds ≡ true → 0 < length ds → long_in ds ≡ unsigned_value ds
 unfolding unsigned_value
-fits_unsigned ds x lt e = let t : nat_lt (digits_value 10 ds) (2 ^ 63) ≡ true = grind (arith, nat_tests) in rw t (ap (λ (n : ℤ). Some n) e)
+plain_long ds d some =
+    let first = digit_at ds 0 (own.to ds d) some in
+    let other : (slice_index ds 0 == 45) ≡ false = ne_eqb (slice_index ds 0) 45 (λ e. omega arith) in
+    let bare : without_leading_sign ds ≡ ds =
+    cond-false (slice_index ds 0 == 45) (drop 1 ds) (without_leading_plus ds) other ∙ without_leading_plus_none ds (λ e. omega arith) in
+    let value : signed_digits_value 10 ds ≡ pos (digits_value 10 ds) =
+    cond-false (slice_index ds 0 == 45) (neg_ℤ (pos (digits_value 10 (without_leading_sign ds)))) (pos (digits_value 10 (without_leading_sign ds))) other
+    ∙ ap (λ us. pos (digits_value 10 us)) bare in
+    let is : is_number ds ≡ true = cond-false (slice_index ds 0 == 45) (is_digits (drop 1 ds)) (is_digits ds) other ∙ are_digits ds d some in
+    by_value ds (pos (digits_value 10 ds)) is value
 
-past_unsigned : (ds : List ℕ) → (digits_value 10 ds < 2 ^ 63 → ⊥) → None ≡ unsigned_value ds
-unfolding unsigned_value
-past_unsigned ds h = let t : nat_lt (digits_value 10 ds) (2 ^ 63) ≡ false = grind (arith, nat_tests) in rw t refl
+fits_minus : (n : ℕ) → is_i64 (neg_ℤ (pos n)) ≡ nat_le n (2 ^ 63)
+fits_minus zero = refl
+fits_minus (suc n) = grind (arith, nat_tests)
 
-fits_negative : (ds : List ℕ) (x : ℤ) → digits_value 10 ds ≤ 2 ^ 63 → x ≡ neg_ℤ (pos (digits_value 10 ds)) → Some x ≡ negative_value ds
+pub minus_long : (ds : List ℕ) → all_ascii_digits ds ≡ true → 0 < length ds → long_in (45 ∷ ds) ≡ negative_value ds
 unfolding negative_value
-fits_negative ds x le e = let t : nat_le (digits_value 10 ds) (2 ^ 63) ≡ true = grind (arith, nat_tests) in rw t (ap (λ (n : ℤ). Some n) e)
-
-past_negative : (ds : List ℕ) → (digits_value 10 ds ≤ 2 ^ 63 → ⊥) → None ≡ negative_value ds
-unfolding negative_value
-past_negative ds h = let t : nat_le (digits_value 10 ds) (2 ^ 63) ≡ false = grind (arith, nat_tests) in rw t refl
-
-pub unsigned_ok : (E : Type 0) (text read : List ℕ) (x : ℤ) → read ≡ text → ParsesSigned {E = E} w64 10 read (Ok x) → all_ascii_digits text ≡ true → Some x ≡ unsigned_value text
-unsigned_ok E text read x same h d =
-    let p : ParsesSigned {E = E} w64 10 text (Ok x) = subst (λ (u : List ℕ). ParsesSigned {E = E} w64 10 u (Ok x)) same h in
-    let k = parse_signed_digits own {E = E} w64 text (Ok x) p d in
-    fits_unsigned text x k.0.1 k.1
-
-pub unsigned_err : {E : Type 0} (text read : List ℕ) (e : E) → read ≡ text → ParsesSigned {E = E} w64 10 read (Err e) → all_ascii_digits text ≡ true → 0 < length text → None ≡ unsigned_value text
-unsigned_err {E} text read e same h d some =
-    let p : ParsesSigned {E = E} w64 10 text (Err e) = subst (λ (u : List ℕ). ParsesSigned {E = E} w64 10 u (Err e)) same h in
-    let k = parse_signed_digits own {E = E} w64 text (Err e) p d in
-    past_unsigned text (λ lt. k (some, lt))
-
-pub negative_ok : (E : Type 0) (text read ds : List ℕ) (x : ℤ) → read ≡ text → ParsesSigned {E = E} w64 10 read (Ok x) → text ≡ 45 ∷ ds → Some x ≡ negative_value ds
-negative_ok E text read ds x same h e =
-    let p : ParsesSigned {E = E} w64 10 (45 ∷ ds) (Ok x) = subst (λ (u : List ℕ). ParsesSigned {E = E} w64 10 u (Ok x)) (same ∙ e) h in
-    let k = parse_signed_minus own {E = E} w64 (45 ∷ ds) (Ok x) p refl in
-    fits_negative ds x k.0.2 k.1
-
-pub negative_err : {E : Type 0} (text read ds : List ℕ) (e : E) → read ≡ text → ParsesSigned {E = E} w64 10 read (Err e) → text ≡ 45 ∷ ds → all_ascii_digits ds ≡ true → 0 < length ds → None ≡ negative_value ds
-negative_err {E} text read ds e same h is d some =
-    let p : ParsesSigned {E = E} w64 10 (45 ∷ ds) (Err e) = subst (λ (u : List ℕ). ParsesSigned {E = E} w64 10 u (Err e)) (same ∙ is) h in
-    let k = parse_signed_minus own {E = E} w64 (45 ∷ ds) (Err e) p refl in
-    past_negative ds (λ le. k (d, some, le))
-
-pub digits_utf8 : (ds : List ℕ) → all_ascii_digits ds ≡ true → IsUtf8 ds
-digits_utf8 ds d = IsUtf8-from_ascii ds (IsAscii-from_digits ds (own.to ds d))
-
-ascii_more : (b : ℕ) (bs : List ℕ) → b < 128 → IsAscii bs → IsAscii (b ∷ bs)
-ascii_more b bs lt h zero = lt
-ascii_more b bs lt h (suc i) = h i
-
-pub signed_utf8 : (ds : List ℕ) → all_ascii_digits ds ≡ true → IsUtf8 (45 ∷ ds)
-signed_utf8 ds d = IsUtf8-from_ascii (45 ∷ ds) (ascii_more 45 ds (omega arith) (IsAscii-from_digits ds (own.to ds d)))
+minus_long ds d some =
+    by_value (45 ∷ ds) (neg_ℤ (pos (digits_value 10 ds))) (are_digits ds d some) refl
+    ∙ ap (λ b. if b then Some (neg_ℤ (pos (digits_value 10 ds))) else None) (fits_minus (digits_value 10 ds))
 
 -- ---- at the front of some bytes
 

@@ -2,8 +2,7 @@
 ghost use Rattle.std.specs.Prelude.{◌≡◌};
 ghost use Rattle.script_tokens.specs.declared.fault.ParseError.TheVariants as errors;
 
-use row_base::NoMemory;
-use std::alloc::{AllocError, AllocFailed};
+use row_base::OutOfMemory;
 
 /// Why bytes or tokens could not be read.
 #[derive(Clone, Copy, Debug, Drop, PartialEq, Eq)]
@@ -14,26 +13,10 @@ pub enum ParseError {
     Form,
 }
 
-impl From<AllocError> for ParseError {
+impl<E: OutOfMemory> From<E> for ParseError {
     ghost from_gives = { λ _ e. e ≡ errors.NoMemory };
 
-    fn from(_refused: AllocError) -> ParseError {
-        ParseError::NoMemory
-    }
-}
-
-impl<T: Drop> From<AllocFailed<T>> for ParseError {
-    ghost from_gives = { λ _ e. e ≡ errors.NoMemory };
-
-    fn from(_refused: AllocFailed<T>) -> ParseError {
-        ParseError::NoMemory
-    }
-}
-
-impl From<NoMemory> for ParseError {
-    ghost from_gives = { λ _ e. e ≡ errors.NoMemory };
-
-    fn from(_refused: NoMemory) -> ParseError {
+    fn from(_refused: E) -> ParseError {
         ParseError::NoMemory
     }
 }

@@ -1,33 +1,19 @@
 //! Numbers.
-ghost use Rattle.std.specs.Prelude.{◌≡◌, ◌≤◌, ◌<◌, ◌∷◌, ℕ, List, length, true, drop};
+ghost use Rattle.std.specs.Prelude.{◌≡◌, ◌≤◌, ◌<◌, ◌∷◌, ℕ, List, length, drop};
 ghost use Rattle.std.specs.List.{prefix_len};
-ghost use Rattle.std.specs.Str.{all_ascii_digits};
 ghost use Rattle.script_tokens.specs.Words.{is_digit};
 ghost use Rattle.script_tokens.specs.Gives.{Gives};
-ghost use Rattle.script_tokens.specs.Reading.{unsigned_value, negative_value, number_at, negative_at};
+ghost use Rattle.script_tokens.specs.Reading.{number_at, negative_at};
 
 use crate::word::is_boundary;
 use crate::{ParseError, Token};
+use row_base::numbers::read_long;
 
 fn digit_run(bytes: &[u8]) -> usize
     ensures is { result ≡ prefix_len is_digit bytes.now }
     ensures within { result ≤ length bytes.now }
 {
     bytes.iter().take_while(|b| b.is_ascii_digit()).count()
-}
-
-/// The number that the text gives, a sign with it, if 64 bits hold it.
-fn value_of(text: &[u8]) -> Option<i64>
-    ensures digits { all_ascii_digits text.now ≡ true → 0 < length text.now → result ≡ unsigned_value text.now }
-    ensures negative { (ds : List ℕ) → text.now ≡ 45 ∷ ds → all_ascii_digits ds ≡ true → 0 < length ds → result ≡ negative_value ds }
-{
-    match str::from_utf8(text) {
-        Ok(text) => match text.parse::<i64>() {
-            Ok(number) => Some(number),
-            Err(_) => None,
-        },
-        Err(_) => None,
-    }
 }
 
 /// The number whose digits stand at the front.
@@ -40,7 +26,7 @@ pub fn number(bytes: &[u8]) -> Result<(Token<'_>, &[u8]), ParseError>
     if !is_boundary(rest) {
         return Err(ParseError::Form);
     }
-    match value_of(digits) {
+    match read_long(digits) {
         Some(number) => Ok((Token::Number(number), rest)),
         None => Err(ParseError::Form),
     }
@@ -65,7 +51,7 @@ pub fn negative(bytes: &[u8]) -> Result<(Token<'_>, &[u8]), ParseError>
     if !is_boundary(rest) {
         return Err(ParseError::Form);
     }
-    match value_of(text) {
+    match read_long(text) {
         Some(number) => Ok((Token::Number(number), rest)),
         None => Err(ParseError::Form),
     }

@@ -42,24 +42,16 @@ fn greater(behind: &[u8]) -> (Symbol, &[u8])
 fn single(b: u8) -> Option<Symbol>
     ensures { result ≡ single b }
 {
-    if b == b'(' {
-        Some(Symbol::Open)
-    } else if b == b')' {
-        Some(Symbol::Close)
-    } else if b == b',' {
-        Some(Symbol::Comma)
-    } else if b == b'=' {
-        Some(Symbol::Equal)
-    } else if b == b'+' {
-        Some(Symbol::Plus)
-    } else if b == b'-' {
-        Some(Symbol::Minus)
-    } else if b == b'*' {
-        Some(Symbol::Star)
-    } else if b == b'.' {
-        Some(Symbol::Dot)
-    } else {
-        None
+    match b {
+        b'(' => Some(Symbol::Open),
+        b')' => Some(Symbol::Close),
+        b',' => Some(Symbol::Comma),
+        b'=' => Some(Symbol::Equal),
+        b'+' => Some(Symbol::Plus),
+        b'-' => Some(Symbol::Minus),
+        b'*' => Some(Symbol::Star),
+        b'.' => Some(Symbol::Dot),
+        _ => None,
     }
 }
 

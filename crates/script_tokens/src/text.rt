@@ -5,7 +5,8 @@ ghost use Rattle.script_tokens.specs.Gives.{Gives};
 ghost use Rattle.script_tokens.specs.Quoted.{body, plain, hex, IsPiece, IsShorter, digit_of, high_of, is_plain, SpellsInside, begins_quote};
 ghost use Rattle.script_tokens.specs.Text.{InsideOf};
 
-use crate::{Bytes, ParseError};
+use crate::ParseError;
+use row_base::Items;
 use std::alloc::Global;
 
 /// What stands at the front of a text's inside.
@@ -118,7 +119,7 @@ fn plain_run(bytes: &[u8]) -> usize
 
 /// The text whose inside stands at the front, up to its closing quote, and what follows it.
 #[tactic(auto, using(crate::proofs::Texts::regroup, crate::proofs::Texts::front_end, crate::proofs::Texts::run_taken, crate::proofs::Texts::run_shorter))]
-pub fn text(alloc: Global, bytes: &[u8]) -> Result<(Bytes, &[u8]), ParseError>
+pub fn text(alloc: Global, bytes: &[u8]) -> Result<(Items<u8>, &[u8]), ParseError>
     ensures { Gives (λ x. (x.0, x.1.now)) result (body plain bytes.now) }
 {
     let mut text = Vec::new(alloc);
@@ -131,7 +132,7 @@ pub fn text(alloc: Global, bytes: &[u8]) -> Result<(Bytes, &[u8]), ParseError>
                 text.push(b)?;
                 rest = after;
             }
-            Piece::End(after) => return Ok((Bytes::make(text), after)),
+            Piece::End(after) => return Ok((Items::from_vec(text), after)),
             Piece::Bad => return Err(ParseError::Form),
         }
     }

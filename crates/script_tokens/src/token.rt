@@ -3,37 +3,8 @@ ghost use Rattle.std.specs.Prelude.{◌≡◌};
 ghost use Rattle.script_tokens.specs.Words.{ends_value};
 
 use crate::word::{is_constant, is_reserved};
+use row_base::Items;
 use std::marker::Model;
-
-/// Bytes of a text, seen as their list.
-#[derive(Debug, Drop)]
-pub struct Bytes {
-    bytes: Vec<u8>,
-}
-
-impl Model for Bytes {
-    ghost use Rattle.std.specs.Prelude.{List, ℕ};
-
-    ghost Value = { List ℕ };
-
-    ghost view = { λ a. a.bytes.items };
-}
-
-impl Bytes {
-    /// These bytes, taken over.
-    pub fn make(bytes: Vec<u8>) -> Bytes
-        ensures { result ≡ bytes.items }
-    {
-        Bytes { bytes }
-    }
-
-    /// The bytes.
-    pub fn as_slice(&self) -> &[u8]
-        ensures { result.now ≡ self.now }
-    {
-        &self.bytes
-    }
-}
 
 /// The bytes of a word, where they stand in the line, seen as their list.
 #[derive(Debug, Drop)]
@@ -104,7 +75,7 @@ pub enum Token<'a> {
     /// A number with its sign.
     Number(i64),
     /// A text, with its escapes undone.
-    Text(Bytes),
+    Text(Items<u8>),
     /// A symbol.
     Symbol(Symbol),
 }

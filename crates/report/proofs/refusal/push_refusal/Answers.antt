@@ -1,7 +1,7 @@
 use Rattle.report.proofs.refusal.push_refusal.Goals as goal
 
 pub returns-in-Outlasted : goal.returns-in-Outlasted
-returns-in-Outlasted c = rw c.in-Outlasted.is c.push_times.ensures
+returns-in-Outlasted c = rw c.in-Outlasted.is c.push_two_numbers.ensures
 
 pub returns-in-FileGone : goal.returns-in-FileGone
 returns-in-FileGone c = rw c.in-FileGone.is c.push_named.ensures
