@@ -1,0 +1,9 @@
+pub mod Texts
+pub mod Listing
+pub mod Objects
+pub mod Judging
+pub mod Outcome
+pub mod Bounds
+pub mod Answered
+pub mod Place
+pub mod Laws
