@@ -9,3 +9,7 @@ abbrev pub words_of : List (List ℕ) → Option Words
 words_of [] = None
 words_of (word ∷ []) = if bytes_eq word (codes "step") then Some Step else None
 words_of (word ∷ more ∷ words) = None
+
+-- what is said of words that aren't accepted
+abbrev pub words_text : List ℕ
+words_text = codes "words: step, threads, dir --path P, gen --size N\n"

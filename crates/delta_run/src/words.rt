@@ -1,6 +1,6 @@
 //! The words of the command line.
 ghost use Rattle.std.specs.Prelude.{◌≡◌};
-ghost use Rattle.delta_run.specs.Words.{words_of};
+ghost use Rattle.delta_run.specs.Words.{words_of, words_text};
 
 use row_base::Text;
 
@@ -25,4 +25,11 @@ pub fn read_words(words: &[Text]) -> Option<Words>
         }
         _ => None,
     }
+}
+
+/// What is said of words that aren't accepted.
+pub fn words_text() -> &'static [u8]
+    ensures { result.now ≡ words_text }
+{
+    b"words: step, threads, dir --path P, gen --size N\n"
 }

@@ -12,7 +12,7 @@ ghost use Rattle.session_runs.specs.Order.{FollowsItems};
 use actor_core::{Item, Till, run_piece, run_schedule};
 use edge_api::World;
 use op_types::{SessionReplies, Statement, TableSpec};
-use row_base::NoMemory;
+use row_base::{Items, NoMemory};
 use sessions::Session;
 use std::alloc::Global;
 
@@ -109,7 +109,7 @@ fn give_replies(replies: &mut Vec<SessionReplies>, sessions: Vec<Session>)
 {
     for session in sessions {
         replies
-            .push(SessionReplies::make(session.into_replies()))
+            .push(Items::from_vec(session.into_replies()))
             .unwrap();
     }
 }
@@ -141,9 +141,7 @@ pub fn run_program<W: World>(
     let mut first = table_session(alloc, table, limit)?;
     let mut others = make_sessions(alloc, sessions, limit)?;
     run_all(&mut first, &mut others, world, items);
-    replies
-        .push(SessionReplies::make(first.into_replies()))
-        .unwrap();
+    replies.push(Items::from_vec(first.into_replies())).unwrap();
     give_replies(&mut replies, others);
     Ok(replies)
 }

@@ -1,18 +1,16 @@
 //! How a run ends.
 ghost use Rattle.std.specs.Prelude.{◌≡◌, IfOk};
-ghost use Rattle.delta_run.specs.Status.{code_of, text_of, kind_text, IsFixed};
+ghost use Rattle.script_runs.specs.Status.{code_of, text_of, kind_text, IsFixed};
 
 use row_base::NoMemory;
 use script_text::{ScriptFault, ScriptFaultKind};
 use std::alloc::Global;
 
-/// How a run ends.
+/// How the run of a script ends.
 #[derive(Clone, Copy, Debug, Drop, PartialEq, Eq)]
 pub enum Status {
-    /// All replies were written.
+    /// All was written.
     Done,
-    /// The words of the command line aren't accepted.
-    NoWords,
     /// The source's bytes are no script.
     NoScript(ScriptFault),
     /// A read failed.
@@ -44,7 +42,6 @@ impl Status {
     {
         match self {
             Status::Done => 0,
-            Status::NoWords => 2,
             Status::NoScript(_) => 3,
             Status::ReadFault => 4,
             Status::WriteFault => 5,
@@ -59,7 +56,6 @@ impl Status {
     {
         match self {
             Status::Done => b"",
-            Status::NoWords => b"words: step, threads, dir --path P, gen --size N\n",
             Status::NoScript(_) => b"",
             Status::ReadFault => b"read failed\n",
             Status::WriteFault => b"write failed\n",

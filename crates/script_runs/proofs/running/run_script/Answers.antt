@@ -1,10 +1,9 @@
-use Rattle.std.proofs.Common.{rules, ◌≡◌, ◌≤◌, length, map, Vec, Global, inr}
+use Rattle.std.proofs.Common.{rules, ◌≡◌, length, map, Vec, Global}
 use Rattle.op_types.specs.declared.statement.Statement.{Statement}
 use Rattle.script_text.specs.declared.script.SessionScript.{SessionScript}
 use Rattle.script_text.specs.Places.{column_count}
-use Rattle.delta_run.specs.Play.{MayRun, program_of}
-use Rattle.delta_run.proofs.Lists.{few_statements, plain_statements, some_columns, as_many, items_within, on_err}
-use Rattle.delta_run.proofs.play.play.Goals as goal
+use Rattle.script_runs.proofs.Lists.{few_statements, plain_statements, some_columns, as_many, items_within}
+use Rattle.script_runs.proofs.running.run_script.Goals as goal
 
 pub run_program-requires-clause-statements : goal.run_program-requires-clause-statements
 run_program-requires-clause-statements g c =
@@ -18,9 +17,6 @@ run_program-requires-clause-items g c =
     let same : map (λ (v : Vec Statement Global). v.items) vs ≡ map (λ (s : SessionScript). s.statements) c.args.script.sessions = search rules in
     let items : c.as_slice.result.now ≡ c.args.script.items = search rules in
     items_within (length c.args.script.sessions) (length vs) c.args.script.items c.as_slice.result.now (as_many c.args.script.sessions vs same) items c.requires.items
-
-pub returns-clause-err : goal.returns-clause-err
-returns-clause-err g c = on_err c.print_replies.result _ (inr (c.in_ok-replies.replies.items, search rules))
 
 pub run_program-requires-clause-plain : goal.run_program-requires-clause-plain
 run_program-requires-clause-plain g c =

@@ -1,6 +1,5 @@
 -- Facts on the lists of a script.
-use Rattle.std.proofs.Common.{◌≡◌, ℕ, ◌<◌, ◌≤◌, List, [], ◌∷◌, length, map, All, refl, sym, ◌∙◌, ap, subst, get_or, Vec, Global, arith}
-use Rattle.std.specs.Prelude.{Result, Ok, Err, OnErr}
+use Rattle.std.proofs.Common.{◌≡◌, ℕ, ◌<◌, ◌≤◌, List, length, map, All, sym, ◌∙◌, ap, subst, get_or, Vec, Global, arith}
 use Rattle.std.proofs.lemmas.List.{length-map, get_or-map}
 use Rattle.std.proofs.lemmas.List.Elements.{All-map}
 use Rattle.actor_core.specs.declared.schedule.Item.{Item}
@@ -35,10 +34,6 @@ as_many ss vs same = sym (length-map ss (λ (s : SessionScript). s.statements)) 
 -- each item is one of the sessions
 pub items_within : (m n : ℕ) (is js : List Item) → m ≡ n → js ≡ is → All (λ (i : Item). (0 < i.actor) × (i.actor ≤ m)) is → All (λ (i : Item). (0 < i.actor) × (i.actor ≤ n)) js
 items_within m n is js same items all = subst (λ (k : ℕ). All (λ (i : Item). (0 < i.actor) × (i.actor ≤ k)) js) same (subst (λ (l : List Item). All (λ (i : Item). (0 < i.actor) × (i.actor ≤ m)) l) (sym items) all)
-
-pub on_err : {A E : Type 0} (r : Result A E) (P : Type 0) → P → OnErr r P
-on_err (Ok a) P p = tt
-on_err (Err e) P p = p
 
 -- a row of as many numbers as there are columns is one number or more
 module _ (columns : ℕ) (some : 1 ≤ columns) where
