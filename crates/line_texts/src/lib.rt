@@ -10,8 +10,7 @@ ghost use Rattle.std.specs.Prelude.{◌≡◌};
 ghost use Rattle.line_texts.specs.Laws.{ColumnsReadBack, PathReadsBack, RowsReadBack, ColumnsAreWritten, PathIsWritten, RowsAreWritten};
 
 pub use read::{read_add, read_columns, read_rows};
-use row_base::NoMemory;
-use std::alloc::{AllocError, AllocFailed};
+use row_base::OutOfMemory;
 pub use write::{are_long_rows, write_add, write_columns, write_rows};
 
 /// Why a text has no reading.
@@ -22,35 +21,13 @@ pub enum TextFault {
     NoMemory,
 }
 
-impl From<NoMemory> for TextFault {
+impl<E: OutOfMemory> From<E> for TextFault {
     ghost use Rattle.std.specs.Prelude.{◌≡◌};
     ghost use Rattle.line_texts.specs.declared.TextFault.TheVariants.{NoMemory};
 
     ghost from_gives = { λ _ e. e ≡ NoMemory };
 
-    fn from(_refused: NoMemory) -> TextFault {
-        TextFault::NoMemory
-    }
-}
-
-impl From<AllocError> for TextFault {
-    ghost use Rattle.std.specs.Prelude.{◌≡◌};
-    ghost use Rattle.line_texts.specs.declared.TextFault.TheVariants.{NoMemory};
-
-    ghost from_gives = { λ _ e. e ≡ NoMemory };
-
-    fn from(_refused: AllocError) -> TextFault {
-        TextFault::NoMemory
-    }
-}
-
-impl<T: Drop> From<AllocFailed<T>> for TextFault {
-    ghost use Rattle.std.specs.Prelude.{◌≡◌};
-    ghost use Rattle.line_texts.specs.declared.TextFault.TheVariants.{NoMemory};
-
-    ghost from_gives = { λ _ e. e ≡ NoMemory };
-
-    fn from(_refused: AllocFailed<T>) -> TextFault {
+    fn from(_refused: E) -> TextFault {
         TextFault::NoMemory
     }
 }

@@ -2,8 +2,7 @@
 ghost use Rattle.std.specs.Prelude.{◌≡◌};
 ghost use Rattle.predicates.specs.declared.fault.BindFault.TheVariants as fault;
 
-use row_base::{NoMemory, Text};
-use std::alloc::{AllocError, AllocFailed};
+use row_base::{OutOfMemory, Text};
 
 /// Why a part of a statement does not fit the schema of its table.
 #[derive(Debug, Drop)]
@@ -24,26 +23,10 @@ pub enum BindFault {
     NoMemory,
 }
 
-impl From<NoMemory> for BindFault {
+impl<E: OutOfMemory> From<E> for BindFault {
     ghost from_gives = { λ _ e. e ≡ fault.NoMemory };
 
-    fn from(_refused: NoMemory) -> BindFault {
-        BindFault::NoMemory
-    }
-}
-
-impl From<AllocError> for BindFault {
-    ghost from_gives = { λ _ e. e ≡ fault.NoMemory };
-
-    fn from(_refused: AllocError) -> BindFault {
-        BindFault::NoMemory
-    }
-}
-
-impl<T: Drop> From<AllocFailed<T>> for BindFault {
-    ghost from_gives = { λ _ e. e ≡ fault.NoMemory };
-
-    fn from(_refused: AllocFailed<T>) -> BindFault {
+    fn from(_refused: E) -> BindFault {
         BindFault::NoMemory
     }
 }

@@ -36,8 +36,7 @@ pub enum Operand<C> {
 /// A predicate over the columns of a row. `C` is a column's name (`Text`) before the predicate is bound to a schema,
 /// and its place (`u32`) after.
 ///
-/// Its calls and its drop recurse as deep as it is. On a stack of 8 MB they were run at a depth of 20,000, and one of
-/// 50,000 was too deep.
+/// Its calls and its drop recurse as deep as it is, so whoever makes one bounds its depth.
 #[derive(Debug, Drop)]
 pub enum Pred<C> {
     /// `Yes` for each row.

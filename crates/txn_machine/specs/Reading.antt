@@ -2,7 +2,7 @@
 use Rattle.std.specs.Prelude.{◌≡◌, List, Option, Some, None, MatchOption}
 use Rattle.op_types.specs.declared.refusal.ObjectFault.{ObjectFault}
 use Rattle.op_types.specs.declared.refusal.ObjectFault.TheVariants.{Line}
-use Rattle.op_types.specs.declared.refusal.LogFaultKind.TheVariants.{Shape}
+use Rattle.op_types.specs.fault.LogFaultKind.TheVariants.{Shape}
 use Rattle.line_texts.specs.declared.TextFault.{TextFault}
 use Rattle.line_texts.specs.declared.TextFault.TheVariants as text
 use Rattle.snapshot_replay.specs.Table.{Commit, Snapshot, applied}

@@ -3,7 +3,7 @@ use Rattle.std.specs.Prelude.{ℕ, ◌==◌, Bool, true, false, if◌then◌else
 use Rattle.row_base.specs.declared.row.Datum.{Datum}
 use Rattle.op_types.specs.declared.refusal.ObjectFault.{ObjectFault}
 use Rattle.op_types.specs.declared.refusal.ObjectFault.TheVariants.{Line}
-use Rattle.op_types.specs.declared.refusal.LogFaultKind.TheVariants.{Shape}
+use Rattle.op_types.specs.fault.LogFaultKind.TheVariants.{Shape}
 use Rattle.line_texts.specs.Texts.{columns_of_text, path_of_text, rows_of_text, bad_line_of_columns, bad_line_of_path, bad_line_of_rows}
 use Rattle.snapshot_replay.specs.Table.{Commit, table_commit, append_commit}
 
