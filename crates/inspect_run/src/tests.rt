@@ -101,41 +101,20 @@ fn writes_show_what_was_put(rt: HostRuntime) -> Result<(), Fail> {
     Ok(())
 }
 
-/// What a run ended with and wrote.
-#[derive(Drop)]
-struct Output {
+/// Whether `journal` ends with this status and writes these texts; the writes of these numbers fail.
+fn shows(
+    alloc: Global,
+    script: &str,
+    failing: &[u32],
     status: u8,
-    text: Vec<u8>,
-    errors: Vec<u8>,
-}
-
-impl Output {
-    fn is(&self, status: u8, text: &str, errors: &str) -> bool {
-        self.status == status
-            && self.text.as_slice() == text.as_bytes()
-            && self.errors.as_slice() == errors.as_bytes()
-    }
-}
-
-fn numbers(alloc: Global, number: u32) -> Result<Vec<u32>, Fail> {
-    let mut all = Vec::new(alloc);
-    if number > 0 {
-        all.push(number)?;
-    }
-    Ok(all)
-}
-
-/// Runs a script by `journal`; the write of this number fails, where it isn't 0.
-fn journal(alloc: Global, script: &str, write: u32) -> Result<Output, Fail> {
-    let mut source = MemSource::new(script.as_bytes().to_vec(alloc)?, numbers(alloc, 0)?);
-    let mut sink = MemSink::new(alloc, numbers(alloc, write)?);
-    let mut errors = MemSink::new(alloc, numbers(alloc, 0)?);
-    let status = run_journal(alloc, &mut source, &mut sink, &mut errors);
-    Ok(Output {
-        status,
-        text: sink.bytes().to_vec(alloc)?,
-        errors: errors.bytes().to_vec(alloc)?,
-    })
+    text: &str,
+    errors: &str,
+) -> Result<bool, Fail> {
+    let mut source = MemSource::new(script.as_bytes().to_vec(alloc)?, Vec::new(alloc));
+    let mut sink = MemSink::new(alloc, failing.to_vec(alloc)?);
+    let mut told = MemSink::new(alloc, Vec::new(alloc));
+    let ended = run_journal(alloc, &mut source, &mut sink, &mut told);
+    Ok(ended == status && sink.bytes() == text.as_bytes() && told.bytes() == errors.as_bytes())
 }
 
 const EMPTY_TABLE: &str = "table (id long not null)\nsession a\nselect\n";
@@ -146,41 +125,37 @@ fn a_read_of_an_empty_table_is_shown(rt: HostRuntime) -> Result<(), Fail> {
     // the commit is the line 'columns id'
     let wanted =
         "0 1 Now - Time 1700000000000\n0 1 List _delta_log/ Names 0\n0 1 Now - Time 1700000000000\n0 1 PutNew _delta_log/00000000000000000000.json Stored 11\n1 1 Now - Time 1700000000000\n1 1 List _delta_log/ Names 1\n1 1 Get _delta_log/00000000000000000000.json Body 11\n";
-    let output = journal(alloc, EMPTY_TABLE, 0)?;
-    assert!(rt; output.is(0, wanted, ""));
-    let output = journal(alloc, EMPTY_TABLE, 1)?;
-    assert!(rt; output.is(5, "", "write failed\n"));
-    let output = journal(alloc, "table (id long not null)\nselect\n", 0)?;
-    assert!(rt; output.is(3, "", "script: line 2 form\n"));
+    assert!(rt; shows(alloc, EMPTY_TABLE, &[], 0, wanted, "")?);
+    assert!(rt; shows(alloc, EMPTY_TABLE, &[1], 5, "", "write failed\n")?);
+    let no_session = "table (id long not null)\nselect\n";
+    assert!(rt; shows(alloc, no_session, &[], 3, "", "script: line 2 form\n")?);
     Ok(())
 }
 
-/// Runs a script by `objects` into this folder.
-fn objects(rt: &HostRuntime, folder: &str, script: &str) -> Result<Output, Fail> {
+/// Whether `objects` into this folder ends with this status and this text.
+fn fills(
+    rt: &HostRuntime,
+    folder: &str,
+    script: &str,
+    status: u8,
+    errors: &str,
+) -> Result<bool, Fail> {
     let alloc = rt.alloc();
-    let mut source = MemSource::new(script.as_bytes().to_vec(alloc)?, numbers(alloc, 0)?);
-    let mut errors = MemSink::new(alloc, numbers(alloc, 0)?);
-    let status = run_objects(rt, alloc, folder, &mut source, &mut errors);
-    Ok(Output {
-        status,
-        text: Vec::new(alloc),
-        errors: errors.bytes().to_vec(alloc)?,
-    })
+    let mut source = MemSource::new(script.as_bytes().to_vec(alloc)?, Vec::new(alloc));
+    let mut told = MemSink::new(alloc, Vec::new(alloc));
+    let ended = run_objects(rt, alloc, folder, &mut source, &mut told);
+    Ok(ended == status && told.bytes() == errors.as_bytes())
 }
 
 #[test]
 fn the_commit_of_a_new_table_is_a_file(rt: HostRuntime) -> Result<(), Fail> {
-    let output = objects(&rt, "inspected", EMPTY_TABLE)?;
-    assert!(rt; output.is(0, "", ""));
+    assert!(rt; fills(&rt, "inspected", EMPTY_TABLE, 0, "")?);
     let text = fs::read(&rt, "inspected/_delta_log/00000000000000000000.json")?;
     assert!(rt; text.as_slice() == "columns id\n".as_bytes());
-    let output = objects(&rt, "inspected", EMPTY_TABLE)?;
-    assert!(rt; output.is(8, "", "folder is there\n"));
+    assert!(rt; fills(&rt, "inspected", EMPTY_TABLE, 8, "folder is there\n")?);
     fs::remove_dir_all(&rt, "inspected")?;
-    let output = objects(&rt, "inspected", "select\n")?;
-    assert!(rt; output.is(3, "", "script: line 1 header\n"));
-    let output = objects(&rt, "no/folder/here", EMPTY_TABLE)?;
-    assert!(rt; output.is(5, "", "write failed\n"));
+    assert!(rt; fills(&rt, "inspected", "select\n", 3, "script: line 1 header\n")?);
+    assert!(rt; fills(&rt, "no/folder/here", EMPTY_TABLE, 5, "write failed\n")?);
     Ok(())
 }
 
