@@ -1,5 +1,6 @@
 -- The text of a commit: a line for each action. Blank lines are passed over, and counted.
-use Rattle.std.specs.Prelude.{◌≡◌, ℕ, ◌+◌, ◌*◌, nat_lt, List, [], ◌∷◌, ◌++◌, length, if◌then◌else◌, Option, Some, None, Result, Ok, Err}
+use Rattle.std.specs.Prelude.{◌≡◌, ℕ, ◌+◌, nat_lt, List, [], ◌∷◌, ◌++◌, length, if◌then◌else◌, Option, Some, None, Result, Ok, Err}
+use Rattle.row_base.specs.declared.limits.TheConstants.{MAX_OBJECT_BYTES}
 use Rattle.serde_json.specs.Data.{Data}
 use Rattle.json_lines.specs.Lines.{lines, is_blank, object_of_line}
 use Rattle.json_lines.specs.Single.{single_member}
@@ -51,7 +52,7 @@ actions_from number done (l ∷ ls) =
 
 -- the most bytes that a commit's text may have
 abbrev pub max_bytes : ℕ
-max_bytes = 64 * 1024 * 1024
+max_bytes = MAX_OBJECT_BYTES
 
 -- the actions that a text says, or its first wrong line
 unfoldable pub actions_of : List ℕ → Result (List Action) LogFault

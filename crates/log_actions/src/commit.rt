@@ -12,10 +12,8 @@ use crate::fault::{LogFault, LogFaultKind};
 use crate::line::judge_line;
 use crate::named::{Named, nothing_named};
 use json_lines::{first_line, is_blank};
+use row_base::limits::MAX_OBJECT_BYTES;
 use std::alloc::Global;
-
-/// The most bytes that the text of a commit may have: 64 MiB.
-pub const MAX_COMMIT_BYTES: usize = 64 * 1024 * 1024;
 
 /// Puts a line's action behind the others.
 #[tactic(auto, unfolding(crate::specs::Commit::actions_from))]
@@ -73,7 +71,7 @@ fn take_lines(alloc: Global, bytes: &[u8]) -> Result<Vec<Action>, LogFault>
 fn read_exactly(alloc: Global, bytes: &[u8]) -> Result<Vec<Action>, LogFault>
     ensures { MatchResult result (λ v. actions_of bytes.now ≡ Ok v.items) (λ f. FaultOf f (actions_of bytes.now)) }
 {
-    if bytes.len() > MAX_COMMIT_BYTES {
+    if bytes.len() > MAX_OBJECT_BYTES {
         return Err(LogFault {
             line: 1,
             kind: LogFaultKind::Shape,

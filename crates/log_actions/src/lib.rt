@@ -17,7 +17,7 @@ pub use action::{
     Action, AddFile, CheckpointMetadata, CommitInfo, Format, MetaData, PartitionMap, Protocol,
     RemoveFile, Sidecar, Txn,
 };
-pub use commit::{MAX_COMMIT_BYTES, commits_are_whole, read_commit};
+pub use commit::{commits_are_whole, read_commit};
 pub use fault::{Feature, LogFault, LogFaultKind};
 pub use json_lines::{Entry, TextMap, TryCopy};
 pub use path::is_absolute;
