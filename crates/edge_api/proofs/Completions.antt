@@ -1,6 +1,7 @@
 -- A legal completion goes on by one entry.
-use Rattle.std.proofs.Common.{◌≡◌, ℕ, ◌≤◌, ◌^◌, true, false, List, [], ◌∷◌, ◌++◌, refl, sym, ◌∙◌, ap, subst, arith}
+use Rattle.std.proofs.Common.{◌≡◌, ℕ, ◌≤◌, true, false, List, [], ◌∷◌, ◌++◌, refl, sym, ◌∙◌, ap, subst, arith}
 use Rattle.std.specs.Prelude.{Option, Some, None, Result, Ok, Err, IfOk, OnOk, OnErr}
+use Rattle.row_base.specs.declared.limits.TheConstants.{LAST_TIME}
 use Rattle.row_base.specs.declared.memory.NoMemory.{NoMemory}
 use Rattle.edge_api.specs.declared.call.Call.{Call}
 use Rattle.edge_api.specs.declared.call.Call.TheVariants.{Get, PutNew, Put, List as ListNames, Delete, Now, Wait}
@@ -26,7 +27,7 @@ last_clock-push : (t : ℕ) (ms : List Moment) (m : Moment) → last_clock t (ms
 last_clock-push t [] m = refl
 last_clock-push t (n ∷ ms) m = last_clock-push n.clock ms m
 
-IsLegal-push : (os : Objects) (t : ℕ) (ms : List Moment) (m : Moment) → IsLegal os t ms → last_clock t ms ≤ m.clock → m.clock ≤ 2 ^ 61
+IsLegal-push : (os : Objects) (t : ℕ) (ms : List Moment) (m : Moment) → IsLegal os t ms → last_clock t ms ≤ m.clock → m.clock ≤ LAST_TIME
     → Answers m.entry.answer (answer_of (objects_after os ms) m.clock m.entry.call) → IsLegal os t (ms ++ m ∷ [])
 IsLegal-push os t [] m legal le bound right = (le, bound, right, tt)
 IsLegal-push os t (n ∷ ms) m legal le bound right = (legal.0, legal.1, legal.2, IsLegal-push (after_moment os n) n.clock ms m legal.3 le bound right)
@@ -58,7 +59,7 @@ stored_kind name body (Some o) = tt
 stored_kind name body None = tt
 
 -- and it is of the call's kind
-pub right_kind : (os : Objects) (clock : ℕ) (call : Call) → clock ≤ 2 ^ 61 → IsOfKind call (answer_of os clock call)
+pub right_kind : (os : Objects) (clock : ℕ) (call : Call) → clock ≤ LAST_TIME → IsOfKind call (answer_of os clock call)
 right_kind os clock (Get name) le = found_kind name (object_at os name)
 right_kind os clock (PutNew name body) le = stored_kind name body (object_at os name)
 right_kind os clock (Put name body) le = tt
@@ -80,8 +81,8 @@ after_right os clock tag (Delete name) = refl
 after_right os clock tag Now = refl
 after_right os clock tag (Wait time) = refl
 
--- the clock after a call is no less, and at most 2^61
-pub clock_after_bounds : (clock : ℕ) (call : Call) → clock ≤ 2 ^ 61 → (clock ≤ clock_after clock call) × (clock_after clock call ≤ 2 ^ 61)
+-- the clock after a call is no less, and at most LAST_TIME
+pub clock_after_bounds : (clock : ℕ) (call : Call) → clock ≤ LAST_TIME → (clock ≤ clock_after clock call) × (clock_after clock call ≤ LAST_TIME)
 clock_after_bounds clock (Get name) le = (omega arith, le)
 clock_after_bounds clock (PutNew name body) le = (omega arith, le)
 clock_after_bounds clock (Put name body) le = (omega arith, le)
@@ -91,7 +92,7 @@ clock_after_bounds clock Now le = (omega arith, le)
 clock_after_bounds clock (Wait time) le = (omega arith, omega arith)
 
 -- one moment more
-completed_by : (journal later : Entries) (os new : Objects) (before : ℕ) (m : Moment) → IsCompleted journal os before → before ≤ m.clock → m.clock ≤ 2 ^ 61
+completed_by : (journal later : Entries) (os new : Objects) (before : ℕ) (m : Moment) → IsCompleted journal os before → before ≤ m.clock → m.clock ≤ LAST_TIME
     → Answers m.entry.answer (answer_of os m.clock m.entry.call) → later ≡ journal ++ m.entry ∷ [] → new ≡ after_moment os m → IsCompleted later new m.clock
 completed_by journal later os new before m done le bound is_right is_later is_new =
     let right : Answers m.entry.answer (answer_of (objects_after [] done.moments) m.clock m.entry.call) =
@@ -108,7 +109,7 @@ completed_by journal later os new before m done le bound is_right is_later is_ne
 
 -- one call more, which was answered right
 completed_more : (journal later : Entries) (os new : Objects) (before clock : ℕ) (tag : Tag) (call : Call) → IsCompleted journal os before
-    → before ≤ clock → clock ≤ 2 ^ 61 → later ≡ journal ++ record { tag = tag; call = call; answer = answer_of os clock call } ∷ [] → new ≡ effect_of os clock call → IsCompleted later new clock
+    → before ≤ clock → clock ≤ LAST_TIME → later ≡ journal ++ record { tag = tag; call = call; answer = answer_of os clock call } ∷ [] → new ≡ effect_of os clock call → IsCompleted later new clock
 completed_more journal later os new before clock tag call done le bound is_later is_new =
     completed_by journal later os new before (right_moment os clock tag call) done le bound (right_answer os clock call) is_later (is_new ∙ sym (after_right os clock tag call))
 

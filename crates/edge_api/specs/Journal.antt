@@ -1,10 +1,11 @@
 -- What the entries of a journal say: the objects that they leave, and the answers that these give.
-use Rattle.std.specs.Prelude.{◌≡◌, ◌==◌, ◌&&◌, ℕ, ◌≤◌, ◌^◌, Bool, if◌then◌else◌, List, [], ◌∷◌, Option, Some, None, nat_eq}
+use Rattle.std.specs.Prelude.{◌≡◌, ◌==◌, ◌&&◌, ℕ, ◌≤◌, Bool, if◌then◌else◌, List, [], ◌∷◌, Option, Some, None, nat_eq}
 use Rattle.std.specs.List.{starts_with}
 use Rattle.std.specs.Str.{bytes_eq}
 use Rattle.std.specs.Ordering.{nat_cmp}
 use Rattle.std.specs.Cmp.Lexicographic.{slice_cmp}
 use Rattle.std.specs.BTreeMap.{insert_entry}
+use Rattle.row_base.specs.declared.limits.TheConstants.{LAST_TIME}
 use Rattle.edge_api.specs.declared.call.Call.{Call}
 use Rattle.edge_api.specs.declared.call.Call.TheVariants.{Get, PutNew, Put, List as ListNames, Delete, Now, Wait}
 use Rattle.edge_api.specs.declared.call.CallKind.{CallKind}
@@ -126,10 +127,10 @@ abbrev pub Answers : Answer → Answer → Type 0
 Answers Fault right = Unit {0}
 Answers answer right = answer ≡ right
 
--- each answer is the one that the objects and the clock give, and the clock never falls and never passes 2^61 milliseconds
+-- each answer is the one that the objects and the clock give, and the clock never falls and never passes LAST_TIME
 abbrev pub IsLegal : Objects → ℕ → List Moment → Type 0
 IsLegal os clock [] = Unit {0}
-IsLegal os clock (m ∷ ms) = (clock ≤ m.clock) × (m.clock ≤ 2 ^ 61) × Answers m.entry.answer (answer_of os m.clock m.entry.call) × IsLegal (after_moment os m) m.clock ms
+IsLegal os clock (m ∷ ms) = (clock ≤ m.clock) × (m.clock ≤ LAST_TIME) × Answers m.entry.answer (answer_of os m.clock m.entry.call) × IsLegal (after_moment os m) m.clock ms
 
 -- the entries of the moments
 abbrev pub entries_of : List Moment → Entries
@@ -152,6 +153,6 @@ IsOfKind (PutNew name body) Taken = Unit {0}
 IsOfKind (Put name body) Stored = Unit {0}
 IsOfKind (ListNames prefix) (Names l) = Unit {0}
 IsOfKind (Delete name) Gone = Unit {0}
-IsOfKind Now (Time t) = t ≤ 2 ^ 61
+IsOfKind Now (Time t) = t ≤ LAST_TIME
 IsOfKind (Wait time) Waited = Unit {0}
 IsOfKind call answer = ⊥

@@ -1,5 +1,6 @@
 -- A store in memory: its objects, its clock, its journal, and what each call does to them.
-use Rattle.std.specs.Prelude.{◌≡◌, ℕ, ◌+◌, ◌≤◌, ◌^◌, min, List, [], ◌∷◌, ◌++◌}
+use Rattle.std.specs.Prelude.{◌≡◌, ℕ, ◌+◌, ◌≤◌, min, List, [], ◌∷◌, ◌++◌}
+use Rattle.row_base.specs.declared.limits.TheConstants.{LAST_TIME}
 use Rattle.edge_api.specs.declared.call.Call.{Call}
 use Rattle.edge_api.specs.declared.call.Call.TheVariants.{Get, PutNew, Put, List as ListNames, Delete, Now, Wait}
 use Rattle.edge_api.specs.declared.call.Answer.{Answer}
@@ -15,7 +16,7 @@ pub record Memory : Type 0 where
   pub objects : Objects
   pub clock : ℕ
 
--- the clock after a call: a wait alone raises it, and not past 2^61
+-- the clock after a call: a wait alone raises it, and not past LAST_TIME
 abbrev pub clock_after : ℕ → Call → ℕ
 clock_after clock (Get name) = clock
 clock_after clock (PutNew name body) = clock
@@ -23,7 +24,7 @@ clock_after clock (Put name body) = clock
 clock_after clock (ListNames prefix) = clock
 clock_after clock (Delete name) = clock
 clock_after clock Now = clock
-clock_after clock (Wait time) = min (clock + time) (2 ^ 61)
+clock_after clock (Wait time) = min (clock + time) LAST_TIME
 
 -- the answer to a call
 abbrev pub memory_answer : Memory → Call → Answer
@@ -54,4 +55,4 @@ pub record IsCompleted (journal : Entries) (objects : Objects) (clock : ℕ) : T
   pub legal : IsLegal [] 0 moments
   pub leaves : objects_after [] moments ≡ objects
   pub time : last_clock 0 moments ≤ clock
-  pub bound : clock ≤ 2 ^ 61
+  pub bound : clock ≤ LAST_TIME

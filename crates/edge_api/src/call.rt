@@ -173,7 +173,7 @@ pub enum Answer {
     Names(Listing),
     /// There is no object of that name any more.
     Gone,
-    /// The clock, in milliseconds, at most 2^61.
+    /// The clock, in milliseconds, at most `LAST_TIME`.
     Time(u64),
     /// The wait is over.
     Waited,

@@ -1,6 +1,7 @@
 //! A store in memory, which keeps its journal.
-ghost use Rattle.std.specs.Prelude.{◌≡◌, ◌≤◌, ◌^◌, [], ◌∷◌, ◌++◌, Some, IfOk, IfErr, OnOk, OnErr};
+ghost use Rattle.std.specs.Prelude.{◌≡◌, ◌≤◌, [], ◌∷◌, ◌++◌, Some, IfOk, IfErr, OnOk, OnErr};
 ghost use Rattle.std.specs.Option.{option_copied, option_map};
+ghost use Rattle.row_base.specs.declared.limits.TheConstants.{LAST_TIME};
 ghost use Rattle.edge_api.specs.Journal.{object_at, with_object, without_object, listing, answer_of, effect_of, HasLegalCompletion, IsOfKind};
 ghost use Rattle.edge_api.specs.Memory.{clock_after, memory_answer, memory_after, memory_after_fault};
 ghost use Rattle.edge_api.specs.World.{Grows, FaultHasCause};
@@ -44,9 +45,9 @@ fn listing_of(
 
 /// The clock after a call.
 pub(crate) fn clock_of(clock: u64, call: &Call) -> u64
-    requires { clock ≤ 2 ^ 61 }
+    requires { clock ≤ LAST_TIME }
     ensures clock { result ≡ clock_after clock call.now }
-    ensures bound { result ≤ 2 ^ 61 }
+    ensures bound { result ≤ LAST_TIME }
 {
     match call {
         Call::Wait(time) => clock.saturating_add(*time).min(LAST_TIME),
@@ -135,7 +136,7 @@ fn do_call(
     call: &Call,
     heard: &Answer,
 ) -> Result<(), NoMemory>
-    requires { clock.old ≤ 2 ^ 61 }
+    requires { clock.old ≤ LAST_TIME }
     ensures objects { OnOk result (objects.new.entries ≡ effect_of objects.old.entries clock.new call.now) }
     ensures journal { OnOk result (journal.new.items ≡ journal.old.items ++ record { tag = tag; call = call.now; answer = heard.now } ∷ []) }
     ensures clock { OnOk result (clock.new ≡ clock_after clock.old call.now) }
@@ -179,7 +180,7 @@ fn make_call(
     tag: Tag,
     call: &Call,
 ) -> Result<Answer, NoMemory>
-    requires { clock.old ≤ 2 ^ 61 }
+    requires { clock.old ≤ LAST_TIME }
     ensures answer { IfOk result (λ answer. answer ≡ answer_of objects.old.entries clock.new call.now) }
     ensures objects { OnOk result (objects.new.entries ≡ effect_of objects.old.entries clock.new call.now) }
     ensures journal { IfOk result (λ answer. journal.new.items ≡ journal.old.items ++ record { tag = tag; call = call.now; answer = answer } ∷ []) }
@@ -202,7 +203,7 @@ fn fail_call(
     call: &Call,
     how: How,
 ) -> Result<(), NoMemory>
-    requires { clock.old ≤ 2 ^ 61 }
+    requires { clock.old ≤ LAST_TIME }
     ensures ok { OnOk result (record { journal = journal.new.items; objects = objects.new.entries; clock = clock.new } ≡ memory_after_fault (record { journal = journal.old.items; objects = objects.old.entries; clock = clock.old }) tag call.now how) }
     ensures same_objects { OnErr result (objects.new.entries ≡ objects.old.entries) }
     ensures same_journal { OnErr result (journal.new.items ≡ journal.old.items) }
@@ -234,9 +235,9 @@ impl Model for MemWorld {
 }
 
 impl MemWorld {
-    /// A store with no objects, whose clock stands at a start in milliseconds, at most 2^61.
+    /// A store with no objects, whose clock stands at a start in milliseconds, at most `LAST_TIME`.
     pub fn new(alloc: Global, start: u64) -> MemWorld
-        requires { start ≤ 2 ^ 61 }
+        requires { start ≤ LAST_TIME }
         ensures { result ≡ record { journal = []; objects = []; clock = start } }
     {
         MemWorld {

@@ -1,7 +1,8 @@
 //! A plain replay of a journal, which goes over all objects for each call.
-ghost use Rattle.std.specs.Prelude.{◌≡◌, ◌≤◌, ◌<◌, ◌+◌, ◌^◌, ◌++◌, ◌∷◌, [], length, not, take, drop, slice_set, IfOk, OnOk, MatchResult};
+ghost use Rattle.std.specs.Prelude.{◌≡◌, ◌≤◌, ◌<◌, ◌+◌, ◌++◌, ◌∷◌, [], length, not, take, drop, slice_set, IfOk, OnOk, MatchResult};
 ghost use Rattle.std.specs.Str.{bytes_eq};
 ghost use Rattle.std.specs.Option.{option_copied};
+ghost use Rattle.row_base.specs.declared.limits.TheConstants.{LAST_TIME};
 ghost use Rattle.edge_api.specs.declared.call.Object.{Object};
 ghost use Rattle.edge_api.specs.Journal.{object_at, with_object, without_object, effect_of, after_moment};
 ghost use Rattle.edge_api.specs.Replay.{moment_at, replay_objects};
@@ -103,14 +104,14 @@ fn replay_entry(
 }
 
 /// The objects that a journal of a store in memory leaves, in byte order of their names. The store's clock
-/// stood at `start` before the first call, in milliseconds, at most 2^61. It goes over all objects
+/// stood at `start` before the first call, in milliseconds, at most `LAST_TIME`. It goes over all objects
 /// for each call, so it is for small journals. The error is want of memory.
 pub fn replay_journal(
     alloc: Global,
     start: u64,
     journal: &[JournalEntry],
 ) -> Result<Vec<(Name, Object)>, NoMemory>
-    requires { start ≤ 2 ^ 61 }
+    requires { start ≤ LAST_TIME }
     ensures { IfOk result (λ v. v.items ≡ replay_objects start journal.now) }
 {
     let mut objects = Vec::new(alloc);

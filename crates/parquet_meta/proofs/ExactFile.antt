@@ -10,6 +10,7 @@ use Rattle.thrift_compact.specs.Laws.{Stands}
 use Rattle.thrift_compact.proofs.Standing.{front_of, stands_make}
 use Rattle.parquet_meta.specs.declared.fault.FileFault.TheVariants as faults
 use Rattle.parquet_meta.specs.declared.meta.FileMeta.{FileMeta}
+use Rattle.row_base.specs.declared.limits.TheConstants.{MAX_OBJECT_BYTES}
 use Rattle.row_base.specs.Faults.{◌>>=◌}
 use Rattle.parquet_meta.specs.Pieces.{Piece}
 use Rattle.parquet_meta.specs.Footer.{is_size, has_magic, footer_len, footer_piece, footer_found, file_in, footer_of}
@@ -55,7 +56,7 @@ cut file len small =
 -- what the tests of a file's ends say
 record Framed (file : List ℕ) (piece : Piece) : Type 0 where
   least : footer_len file + 12 ≤ length file
-  most : length file ≤ 67108864
+  most : length file ≤ MAX_OBJECT_BYTES
   front : take 4 file ≡ codes "PAR1"
   back : drop (length file - 4) file ≡ codes "PAR1"
   is : piece ≡ footer_piece file (footer_len file)
@@ -67,11 +68,11 @@ framed file piece e =
     (cond (not (has_magic file)) (Err faults.Magic) (cond (ltb (length file) (footer_len file + 12)) (Err faults.Footer) (Ok (footer_piece file (footer_len file))))) piece e in
     let b = guard_ok (not (has_magic file)) faults.Magic (cond (ltb (length file) (footer_len file + 12)) (Err faults.Footer) (Ok (footer_piece file (footer_len file)))) piece a.1 in
     let c = guard_ok (ltb (length file) (footer_len file + 12)) faults.Footer (Ok (footer_piece file (footer_len file))) piece b.1 in
-    let sizes = both_true (not (ltb (length file) 12)) (not (ltb 67108864 (length file))) (not_false (is_size (length file)) a.0) in
+    let sizes = both_true (not (ltb (length file) 12)) (not (ltb MAX_OBJECT_BYTES (length file))) (not_false (is_size (length file)) a.0) in
     let ends = both_true (bytes_eq (take 4 file) (codes "PAR1")) (bytes_eq (drop (length file - 4) file) (codes "PAR1")) (not_false (has_magic file) b.0) in
     record {
       least = ltb-false (length file) (footer_len file + 12) c.0;
-      most = ltb-false 67108864 (length file) (not_true (ltb 67108864 (length file)) sizes.1);
+      most = ltb-false MAX_OBJECT_BYTES (length file) (not_true (ltb MAX_OBJECT_BYTES (length file)) sizes.1);
       front = (bytes_eq-Decides (take 4 file) (codes "PAR1")).0 ends.0;
       back = (bytes_eq-Decides (drop (length file - 4) file) (codes "PAR1")).0 ends.1;
       is = sym (ok_inside (footer_piece file (footer_len file)) piece c.1);
@@ -139,13 +140,13 @@ drop-magic pages body size at four here =
     ∙ ap (λ (bs : List ℕ). drop 4 bs) (drop-size pages body size (length pages + 4 + length body) refl)
     ∙ drop_at size (codes "PAR1") 4 four
 
-joined_found : (pages body size : List ℕ) → length size ≡ 4 → from_le_bytes w32 size ≡ length body → length (joined pages body size) ≤ 67108864
+joined_found : (pages body size : List ℕ) → length size ≡ 4 → from_le_bytes w32 size ≡ length body → length (joined pages body size) ≤ MAX_OBJECT_BYTES
     → footer_found (joined pages body size) ≡ Ok (record { bytes = body; start = length pages + 4 })
 unfolding footer_found
 joined_found pages body size four counted small =
     let file = joined pages body size in
     let n : length file ≡ length pages + length body + 12 = length-joined pages body size four in
-    let big : is_size (length file) ≡ true = true_both (not (ltb (length file) 12)) (not (ltb 67108864 (length file))) (ap not (le-ltb (length file) 12 (omega (arith, n)))) (ap not (le-ltb 67108864 (length file) small)) in
+    let big : is_size (length file) ≡ true = true_both (not (ltb (length file) 12)) (not (ltb MAX_OBJECT_BYTES (length file))) (ap not (le-ltb (length file) 12 (omega (arith, n)))) (ap not (le-ltb MAX_OBJECT_BYTES (length file) small)) in
     let front : take 4 file ≡ codes "PAR1" = take_at (codes "PAR1") (pages ++ (body ++ (size ++ codes "PAR1"))) 4 refl in
     let back : drop (length file - 4) file ≡ codes "PAR1" = drop-magic pages body size (length file - 4) four (omega (arith, n)) in
     let magic : has_magic file ≡ true = true_both (bytes_eq (take 4 file) (codes "PAR1")) (bytes_eq (drop (length file - 4) file) (codes "PAR1"))
@@ -167,7 +168,7 @@ joined_found pages body size four counted small =
     guards a b c piece p q r = rw (p, q, r) refl
 
 pub joined_taken : (pages text rest size : List ℕ) (meta : FileMeta) → SpellsFile text meta → length size ≡ 4 → from_le_bytes w32 size ≡ length text + length rest
-    → length (joined pages (text ++ rest) size) ≤ 67108864 → footer_of (joined pages (text ++ rest) size) ≡ Ok meta
+    → length (joined pages (text ++ rest) size) ≤ MAX_OBJECT_BYTES → footer_of (joined pages (text ++ rest) size) ≡ Ok meta
 unfolding footer_of
 joined_taken pages text rest size meta spelled four counted small =
     let piece : Piece = record { bytes = text ++ rest; start = length pages + 4 } in
@@ -178,4 +179,4 @@ joined_taken pages text rest size meta spelled four counted small =
 
 pub footers_taken : (file : List ℕ) (meta : FileMeta) → IsFile file meta → footer_of file ≡ Ok meta
 footers_taken file meta h =
-    ap footer_of h.whole ∙ joined_taken h.pages h.text h.rest h.size meta h.spelled h.four h.counted (subst (λ (bs : List ℕ). length bs ≤ 67108864) h.whole h.small)
+    ap footer_of h.whole ∙ joined_taken h.pages h.text h.rest h.size meta h.spelled h.four h.counted (subst (λ (bs : List ℕ). length bs ≤ MAX_OBJECT_BYTES) h.whole h.small)

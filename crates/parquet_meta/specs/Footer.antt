@@ -18,6 +18,7 @@ use Rattle.parquet_meta.specs.declared.known.ElementKnown.{ElementKnown}
 use Rattle.parquet_meta.specs.declared.known.GroupKnown.{GroupKnown}
 use Rattle.parquet_meta.specs.declared.known.ChunkKnown.{ChunkKnown}
 use Rattle.parquet_meta.specs.declared.known.ColumnKnown.{ColumnKnown}
+use Rattle.row_base.specs.declared.limits.TheConstants.{MAX_OBJECT_BYTES}
 use Rattle.row_base.specs.Faults.{◌>>=◌}
 use Rattle.parquet_meta.specs.Pieces.{Piece}
 use Rattle.parquet_meta.specs.Values.{typed, text_in, list_in, number_in, number_of, put, passed}
@@ -195,7 +196,7 @@ file_in = struct_of file_step no_file file_made
 
 -- the most bytes that a file has
 abbrev pub is_size : ℕ → Bool
-is_size len = not (nat_lt len 12) && not (nat_lt 67108864 len)
+is_size len = not (nat_lt len 12) && not (nat_lt MAX_OBJECT_BYTES len)
 
 -- the first four bytes and the last four are the magic
 abbrev pub has_magic : List ℕ → Bool

@@ -5,6 +5,7 @@ use Rattle.std.specs.Prelude.{◌≡◌, ℕ, ◌+◌, ◌≤◌, true, false, L
 use Rattle.std.specs.Bool.{MatchBool}
 use Rattle.std.specs.Ordering.{int_eq}
 use Rattle.std.specs.Int.{w32, from_le_bytes}
+use Rattle.row_base.specs.declared.limits.TheConstants.{MAX_OBJECT_BYTES}
 use Rattle.thrift_compact.specs.declared.wire.Wire.{Wire}
 use Rattle.thrift_compact.specs.declared.wire.Wire.TheVariants as wires
 use Rattle.thrift_compact.specs.declared.wire.Field.TheVariants as fields
@@ -207,7 +208,7 @@ pub record IsFile (file : List ℕ) (meta : FileMeta) : Type 0 where
   pub four : length size ≡ 4
   pub counted : from_le_bytes w32 size ≡ length text + length rest
   pub whole : file ≡ codes "PAR1" ++ (pages ++ ((text ++ rest) ++ (size ++ codes "PAR1")))
-  pub small : length file ≤ 67108864
+  pub small : length file ≤ MAX_OBJECT_BYTES
 
 -- ---- DataPageHeader and DictionaryPageHeader
 

@@ -1,6 +1,7 @@
 -- Footers and heads of pages read exactly as their texts say, and what is written reads back.
 use Rattle.std.specs.Prelude.{◌≡◌, ◌↔◌, ℕ, ◌+◌, ◌≤◌, ◌<◌, ◌^◌, List, [], ◌∷◌, ◌++◌, length, codes, ℤ, Option, Some, None, Ok, IsUtf8}
 use Rattle.std.specs.Int.{w32, to_le_bytes}
+use Rattle.row_base.specs.declared.limits.TheConstants.{MAX_OBJECT_BYTES}
 use Rattle.thrift_compact.specs.Varints.{zigzag}
 use Rattle.thrift_compact.specs.Laws.{Stands}
 use Rattle.parquet_meta.specs.declared.meta.FileMeta.{FileMeta}
@@ -92,7 +93,7 @@ pub record FitsFile (meta : FileMeta) : Type 0 where
 -- a file that ends with the text of its metadata and whatever follows it, with their length and the magic, reads as it
 abbrev pub FootersReadBack : Type 0
 FootersReadBack = (meta : FileMeta) (pages rest : List ℕ) → FitsFile meta
-    → length (codes "PAR1" ++ (pages ++ ((footer_text meta ++ rest) ++ (to_le_bytes w32 (length (footer_text meta ++ rest)) ++ codes "PAR1")))) ≤ 67108864
+    → length (codes "PAR1" ++ (pages ++ ((footer_text meta ++ rest) ++ (to_le_bytes w32 (length (footer_text meta ++ rest)) ++ codes "PAR1")))) ≤ MAX_OBJECT_BYTES
     → footer_of (codes "PAR1" ++ (pages ++ ((footer_text meta ++ rest) ++ (to_le_bytes w32 (length (footer_text meta ++ rest)) ++ codes "PAR1")))) ≡ Ok meta
 
 -- a page's head, whatever stands before and behind its text, reads as it was written

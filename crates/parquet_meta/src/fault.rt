@@ -8,7 +8,7 @@ use thiserror::Error;
 /// Why a file has no reading: the first fault met in reading.
 #[derive(Debug, Drop, PartialEq, Eq, Error)]
 pub enum FileFault {
-    /// The file has fewer than 12 bytes or more than 67,108,864.
+    /// The file has fewer than 12 bytes or more than `MAX_OBJECT_BYTES`.
     #[error("a file of fewer than 12 bytes or more than 67,108,864")]
     Short,
     /// The first or the last four bytes are not `PAR1`.

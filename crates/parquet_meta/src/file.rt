@@ -14,14 +14,12 @@ use crate::page::{page_head, read_numbers};
 use crate::reader::Reader;
 use crate::written::{write_file, write_head};
 use row_base::NoMemory;
+use row_base::limits::MAX_OBJECT_BYTES;
 use std::alloc::Global;
 use thrift_compact::Appender;
 
 /// The fewest bytes of a file: the magic at both ends, and the footer's length.
 const MIN_SIZE: usize = 12;
-
-/// The most bytes of a file that is read.
-const MAX_SIZE: usize = 67_108_864;
 
 /// Four bytes of a file are the magic.
 fn is_magic(bytes: &[u8]) -> bool
@@ -47,7 +45,7 @@ fn find_footer(file: &[u8]) -> Result<(&[u8], usize), FileFault>
     ensures { MatchResult result (λ f. (spec.footer_found file.now ≡ Ok (record { bytes = f.0.now; start = f.1 })) × (f.1 + length f.0.now ≤ length file.now)) (λ fault. spec.footer_found file.now ≡ Err fault) }
 {
     let len = file.len();
-    if len < MIN_SIZE || MAX_SIZE < len {
+    if len < MIN_SIZE || MAX_OBJECT_BYTES < len {
         return Err(FileFault::Short);
     }
     if !(is_magic(&file[..4]) && is_magic(&file[len - 4..])) {

@@ -8,6 +8,7 @@ use Rattle.std.proofs.lemmas.Str.{is_utf8-from_IsUtf8, IsUtf8-from_is_utf8}
 use Rattle.std.proofs.lemmas.Bool.{le-leb, leb-true, and_parts, and_from}
 use Rattle.std.proofs.lemmas.List.{length-append, length-take-le, take-append-drop, take_at, drop_at, length-map}
 use Rattle.bit_pack.specs.Bits.{Packed}
+use Rattle.row_base.specs.declared.limits.TheConstants.{MAX_TEXT_BYTES}
 use Rattle.row_base.specs.Dates.{IsDayNumber}
 use Rattle.row_base.specs.declared.row.Datum.{Datum}
 use Rattle.row_base.specs.declared.row.Datum.TheVariants as datum
@@ -57,13 +58,13 @@ block_only bytes b e =
 -- ---- one value
 
 text_found : (bytes : List ℕ) → IsText bytes → text_datum bytes ≡ Some (datum.Text bytes)
-text_found bytes t = rw (le-leb (length bytes) 65535 t.short, is_utf8-from_IsUtf8 bytes t.utf8) refl
+text_found bytes t = rw (le-leb (length bytes) MAX_TEXT_BYTES t.short, is_utf8-from_IsUtf8 bytes t.utf8) refl
 
 text_only : (bytes : List ℕ) (v : Datum) → text_datum bytes ≡ Some v → IsText bytes × (datum.Text bytes ≡ v)
 text_only bytes v e =
-    let p = test_some (leb (length bytes) 65535 && is_utf8 bytes) (Some (datum.Text bytes)) v e in
-    let tests = and_parts (leb (length bytes) 65535) (is_utf8 bytes) p.0 in
-    (record { short = leb-true (length bytes) 65535 tests.0; utf8 = IsUtf8-from_is_utf8 bytes tests.1 }, inside (datum.Text bytes) v p.1)
+    let p = test_some (leb (length bytes) MAX_TEXT_BYTES && is_utf8 bytes) (Some (datum.Text bytes)) v e in
+    let tests = and_parts (leb (length bytes) MAX_TEXT_BYTES) (is_utf8 bytes) p.0 in
+    (record { short = leb-true (length bytes) MAX_TEXT_BYTES tests.0; utf8 = IsUtf8-from_is_utf8 bytes tests.1 }, inside (datum.Text bytes) v p.1)
 
 tells : (b : Bool) → T b → b ≡ true
 tells true h = refl

@@ -5,6 +5,7 @@ use Rattle.std.specs.Int.{w32, from_le_bytes}
 use Rattle.std.specs.List.{All, list_any}
 use Rattle.bit_pack.specs.Bits.{Packed, most_values}
 use Rattle.bit_pack.specs.Hybrid as hybrid
+use Rattle.row_base.specs.declared.limits.TheConstants.{MAX_TEXT_BYTES}
 use Rattle.row_base.specs.Dates.{IsDayNumber}
 use Rattle.row_base.specs.declared.row.Datum.{Datum}
 use Rattle.row_base.specs.declared.row.Datum.TheVariants as datum
@@ -19,9 +20,9 @@ use Rattle.parquet_pages.specs.Places.{is_null, present, place_of, is_boolean, d
 use Rattle.parquet_pages.specs.Written.{CanStand}
 use Rattle.parquet_pages.specs.Pages.{page_values, page_has_null, dictionary_values}
 
--- bytes of UTF-8, at most 65,535 of them
+-- bytes of UTF-8, at most MAX_TEXT_BYTES of them
 pub record IsText (bytes : List ℕ) : Type 0 where
-  pub short : length bytes ≤ 65535
+  pub short : length bytes ≤ MAX_TEXT_BYTES
   pub utf8 : IsUtf8 bytes
 
 -- four bytes with a number, so many bytes behind them, and the rest

@@ -2,6 +2,7 @@
 use Rattle.std.specs.Prelude.{ℕ, zero, suc, ℤ, nat_le, ◌==◌, Bool, not, ◌&&◌, if◌then◌else◌, List, [], ◌∷◌, length, take, drop, map, pos, neg_ℤ, int_le, Option, Some, None, option_map}
 use Rattle.std.specs.Int.{w32, w64, from_le_bytes, cast_signed}
 use Rattle.std.specs.Str.{is_utf8}
+use Rattle.row_base.specs.declared.limits.TheConstants.{MAX_TEXT_BYTES}
 use Rattle.row_base.specs.declared.row.Datum.{Datum}
 use Rattle.row_base.specs.declared.row.Datum.TheVariants as datum
 use Rattle.row_base.specs.declared.row.Kind.{Kind}
@@ -30,9 +31,9 @@ integer_of bytes = cast_signed w32 (from_le_bytes w32 bytes)
 abbrev pub is_day_number : ℤ → Bool
 is_day_number n = int_le (neg_ℤ (pos 719_162)) n && int_le n (pos 2_932_896)
 
--- at most 65,535 bytes of UTF-8
+-- at most MAX_TEXT_BYTES bytes of UTF-8
 abbrev pub is_text : List ℕ → Bool
-is_text bytes = nat_le (length bytes) 65535 && is_utf8 bytes
+is_text bytes = nat_le (length bytes) MAX_TEXT_BYTES && is_utf8 bytes
 
 abbrev pub long_in : List ℕ → Option (Datum × List ℕ)
 long_in bytes = option_map (λ c. (datum.Long (long_of c.0), c.1)) (cut 8 bytes)

@@ -15,7 +15,7 @@ use Rattle.parquet_pages.specs.Pages.{page_values, dictionary_values}
 use Rattle.parquet_pages.specs.Written.{page_text, index_text, dictionary_text, CanStand}
 use Rattle.parquet_pages.specs.Grammar.{IsText}
 
--- a value that some bytes read as: a number of its width, at most 65,535 bytes of UTF-8, a day of the years 1 to 9999
+-- a value that some bytes read as: a number of its width, at most MAX_TEXT_BYTES bytes of UTF-8, a day of the years 1 to 9999
 abbrev pub CanReturn : Datum → Type 0
 CanReturn datum.Null = Unit {0}
 CanReturn (datum.Long n) = FitsSigned w64 n

@@ -192,7 +192,7 @@ fn body_values(
 /// - `Encoding` for values in an encoding other than PLAIN (0), PLAIN_DICTIONARY (2) and RLE_DICTIONARY (8), or, where
 ///   the column may be null, for definition levels in another than RLE (3);
 /// - `Page` with the place of the body, for a body that passes the file's end, a number of values that is negative or
-///   above 2^26, levels or values that can't be read, a text that isn't UTF-8 or has more than 65,535 bytes, a date
+///   above 2^26, levels or values that can't be read, a text that isn't UTF-8 or has more than `MAX_TEXT_BYTES`, a date
 ///   outside 0001-01-01 to 9999-12-31, values in a dictionary where none is given, and a place outside it.
 ///
 /// The body has `compressed_page_size` bytes, of which any behind the values are ignored (Parquet format, README.md,

@@ -9,12 +9,10 @@ ghost use Rattle.parquet_pages.specs.Written as written;
 
 use crate::fault::BodyFault;
 use crate::hybrid::{append_bits, bits};
+use row_base::limits::MAX_TEXT_BYTES;
 use row_base::{Datum, Kind, NoMemory, Text};
 use std::alloc::Global;
 use std::str;
-
-/// The most bytes of a text.
-const MAX_TEXT: usize = 65_535;
 
 /// The bytes of a long.
 const LONG_SIZE: usize = 8;
@@ -80,7 +78,7 @@ fn date(bytes: &[u8]) -> Option<(Datum, &[u8])>
 fn text_of(alloc: Global, bytes: &[u8]) -> Result<Datum, BodyFault>
     ensures { Gives result (λ x. x) (spec.text_datum bytes.now) }
 {
-    if bytes.len() > MAX_TEXT {
+    if bytes.len() > MAX_TEXT_BYTES {
         return Err(BodyFault::Damaged);
     }
     match str::from_utf8(bytes) {

@@ -4,6 +4,7 @@ use Rattle.std.specs.List.{All, find}
 use Rattle.std.proofs.lemmas.Bool.{lt-ltb, and_from}
 use Rattle.std.proofs.lemmas.List.{take-append-drop, length-take}
 use Rattle.std.proofs.lemmas.List.Elements.{All-take, All-drop}
+use Rattle.row_base.specs.declared.limits.TheConstants.{MAX_OBJECT_BYTES}
 use Rattle.row_base.specs.declared.row.Datum.{Datum}
 use Rattle.row_base.specs.declared.schema.Column.{Column}
 use Rattle.parquet_meta.specs.declared.head.PageHead.{PageHead}
@@ -29,7 +30,7 @@ use Rattle.parquet_plain.proofs.Steps.{if_at}
 
 -- the most bytes of a file that is read
 abbrev pub Small : List ℕ → Type 0
-Small file = length file ≤ 67108864
+Small file = length file ≤ MAX_OBJECT_BYTES
 
 -- ---- bytes at a place, by parts
 
@@ -97,7 +98,7 @@ pub record PageBack (c : Column) (file : List ℕ) (at : ℕ) (d : Option (List 
 
 -- values that can be written and read back
 pub record Values (c : Column) (d : Option (List Datum)) (vs : List Datum) : Type 0 where
-  pub few : length vs ≤ 4096
+  pub few : length vs ≤ page_values_most
   pub stand : All (CanStand c.kind c.nullable) vs
   pub back : All CanReturn vs
   pub placed : AreIn d c.nullable vs
@@ -229,15 +230,15 @@ unfolding parts_of
 parts_fit c d values w =
     parts_each (Kept c d) (Values c d) page_values_most
     (λ vs k. record {
-      few = omega (arith, length-take 4096 vs);
-      stand = All-take (CanStand c.kind c.nullable) 4096 vs k.stand;
-      back = All-take CanReturn 4096 vs k.back;
-      placed = in-take d c.nullable 4096 vs k.placed;
+      few = omega (arith, length-take page_values_most vs);
+      stand = All-take (CanStand c.kind c.nullable) page_values_most vs k.stand;
+      back = All-take CanReturn page_values_most vs k.back;
+      placed = in-take d c.nullable page_values_most vs k.placed;
     })
     (λ vs k. record {
-      stand = All-drop (CanStand c.kind c.nullable) 4096 vs k.stand;
-      back = All-drop CanReturn 4096 vs k.back;
-      placed = in-drop d c.nullable 4096 vs k.placed;
+      stand = All-drop (CanStand c.kind c.nullable) page_values_most vs k.stand;
+      back = All-drop CanReturn page_values_most vs k.back;
+      placed = in-drop d c.nullable page_values_most vs k.placed;
     })
     (length values) values (record { stand = w.stand; back = w.back; placed = w.placed })
 

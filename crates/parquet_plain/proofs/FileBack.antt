@@ -5,6 +5,7 @@ use Rattle.std.specs.List.{All}
 use Rattle.std.proofs.lemmas.List.{length-map, length-take}
 use Rattle.std.proofs.lemmas.Str.{IsUtf8-from_ascii}
 use Rattle.std.proofs.lemmas.List.Elements.{All-map, All-append, All-take, All-drop}
+use Rattle.row_base.specs.declared.limits.TheConstants.{MAX_FILE_ROWS, MAX_OBJECT_BYTES}
 use Rattle.row_base.specs.declared.row.Datum.{Datum}
 use Rattle.row_base.specs.declared.row.Datum.TheVariants as datum
 use Rattle.row_base.specs.declared.row.Kind.{Kind}
@@ -19,7 +20,7 @@ use Rattle.parquet_pages.specs.Places.{is_null, place_of, with_value, distinct_a
 use Rattle.parquet_pages.specs.Written.{CanStand}
 use Rattle.parquet_pages.specs.ReadBack.{CanReturn, StandsIn}
 use Rattle.parquet_plain.specs.Tree.{physical_of, is_partition, sources_from}
-use Rattle.parquet_plain.specs.Reading.{most_rows, file_rows}
+use Rattle.parquet_plain.specs.Reading.{file_rows}
 use Rattle.parquet_plain.specs.Written.{parts_in, parts_of, page_values_most, group_rows_most, front_of, pages_of, chunk_text_by, chunk_text, chunk_entry_by, chunk_entry, column_values, chunks_text, chunk_entries, group_text, group_entry, groups_text, group_entries, converted_of, encodings_of, place_if, repetition_of, element_of, elements_from, elements_of, root_of, magic, groups_of, meta_of, length_bytes, ended, file_text}
 use Rattle.parquet_plain.specs.Grammar.{AreGroups}
 use Rattle.parquet_plain.specs.ReadBack.{nulled, Returns, FilesReadBack}
@@ -67,7 +68,7 @@ few_by false false ds h = tt
 none_back : All CanReturn []
 none_back i d within = absurd (omega arith)
 
-whole : (c : Column) (vs : List Datum) → length vs ≤ 16384 → All (CanStand c.kind c.nullable) vs → All CanReturn vs → Whole c (dictionary_of c.kind vs) vs
+whole : (c : Column) (vs : List Datum) → length vs ≤ group_rows_most → All (CanStand c.kind c.nullable) vs → All CanReturn vs → Whole c (dictionary_of c.kind vs) vs
 unfolding dictionary_of
 whole c vs few stand back = record {
   stand = stand;
@@ -82,7 +83,7 @@ whole c vs few stand back = record {
 
 -- rows of a group that can be written and read back
 record GroupFits (s : TableSchema) (rows : List (List Datum)) : Type 0 where
-  few : length rows ≤ 16384
+  few : length rows ≤ group_rows_most
   fits : All (FitsSchema s) rows
   back : All (Returns s) rows
 
@@ -190,7 +191,7 @@ place_fits : (at : ℕ) (d : Option (List Datum)) → at < 2 ^ 63 → IfThere Is
 place_fits at None small = tt
 place_fits at (Some ds) small = narrow at small
 
-chunk_fits_by : (c : Column) (d : Option (List Datum)) (values : List Datum) (file : List ℕ) (at : ℕ) → IsText c.name → Small file → length values ≤ 16384 → StandsIn file at (chunk_text_by c d values)
+chunk_fits_by : (c : Column) (d : Option (List Datum)) (values : List Datum) (file : List ℕ) (at : ℕ) → IsText c.name → Small file → length values ≤ group_rows_most → StandsIn file at (chunk_text_by c d values)
     → FitsChunk (chunk_entry_by c d values at)
 unfolding chunk_entry_by chunk_text_by AllFit
 chunk_fits_by c d values file at name small few s =
@@ -213,7 +214,7 @@ chunk_fits_by c d values file at name small few s =
       };
     }
 
-chunks_fit : (file : List ℕ) (partition : List ℕ) (rows : List (List Datum)) (at place : ℕ) (cs : List Column) → AreNamed cs → Small file → length rows ≤ 16384
+chunks_fit : (file : List ℕ) (partition : List ℕ) (rows : List (List Datum)) (at place : ℕ) (cs : List Column) → AreNamed cs → Small file → length rows ≤ group_rows_most
     → StandsIn file at (chunks_text partition rows place cs) → AllFit FitsChunk (chunk_entries partition rows at place cs)
 unfolding AllFit chunk_text chunk_entry
 chunks_fit file partition rows at place [] named small few s = tt
@@ -288,13 +289,13 @@ unfolding parts_of
 all_fit s rows h =
     parts_each (RowsFit s) (GroupFits s) group_rows_most
     (λ rs k. record {
-      few = omega (arith, length-take 16384 rs);
-      fits = All-take (FitsSchema s) 16384 rs k.fits;
-      back = All-take (Returns s) 16384 rs k.back;
+      few = omega (arith, length-take group_rows_most rs);
+      fits = All-take (FitsSchema s) group_rows_most rs k.fits;
+      back = All-take (Returns s) group_rows_most rs k.back;
     })
     (λ rs k. record {
-      fits = All-drop (FitsSchema s) 16384 rs k.fits;
-      back = All-drop (Returns s) 16384 rs k.back;
+      fits = All-drop (FitsSchema s) group_rows_most rs k.fits;
+      back = All-drop (Returns s) group_rows_most rs k.back;
     })
     (length rows) rows h
 
@@ -337,7 +338,7 @@ footer_small s rows small =
     (stands_first (file_text s rows) ((0 + length magic) + length (groups_text s (groups_of rows))) footer (length_bytes (length footer) ++ magic) last) in
     omega (arith, end, small)
 
-meta_fits : (s : TableSchema) (rows : List (List Datum)) → length s.columns ≤ 64 → AreNamed s.columns → RowsFit s rows → length rows ≤ most_rows → Small (file_text s rows)
+meta_fits : (s : TableSchema) (rows : List (List Datum)) → length s.columns ≤ 64 → AreNamed s.columns → RowsFit s rows → length rows ≤ MAX_FILE_ROWS → Small (file_text s rows)
     → StandsIn (file_text s rows) 4 (groups_text s (groups_of rows)) → FitsFile (meta_of s rows)
 unfolding meta_of elements_of AllFit
 meta_fits s rows few named fit short small t = record {
@@ -363,8 +364,8 @@ meta_fits s rows few named fit short small t = record {
     }
 
 -- a file that is written is read as its rows, with null in the partition columns
-pub file_back : (s : TableSchema) (rows : List (List Datum)) → IsSchema s → AreNamed s.columns → All (FitsSchema s) rows → All (Returns s) rows → length rows ≤ most_rows
-    → length (file_text s rows) ≤ 67108864 → file_rows s (file_text s rows) ≡ Ok (map (nulled s) rows)
+pub file_back : (s : TableSchema) (rows : List (List Datum)) → IsSchema s → AreNamed s.columns → All (FitsSchema s) rows → All (Returns s) rows → length rows ≤ MAX_FILE_ROWS
+    → length (file_text s rows) ≤ MAX_OBJECT_BYTES → file_rows s (file_text s rows) ≡ Ok (map (nulled s) rows)
 unfolding whole_file meta_of
 file_back s rows schema named fits back short small =
     let file = file_text s rows in

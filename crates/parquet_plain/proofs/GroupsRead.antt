@@ -5,6 +5,7 @@ use Rattle.std.specs.Ordering.{int_eq}
 use Rattle.std.specs.List.{find}
 use Rattle.std.proofs.lemmas.Bool.{ltb-false, le-ltb, eqb-true, eq-eqb, and_parts, and_from}
 use Rattle.std.proofs.lemmas.List.{length-replicate}
+use Rattle.row_base.specs.declared.limits.TheConstants.{MAX_FILE_ROWS}
 use Rattle.row_base.specs.declared.row.Datum.{Datum}
 use Rattle.parquet_meta.specs.declared.fault.FileFault.TheVariants as faults
 use Rattle.parquet_meta.specs.declared.meta.ColumnChunk.{ColumnChunk}
@@ -16,7 +17,7 @@ use Rattle.parquet_plain.specs.declared.source.Leaf.{Leaf}
 use Rattle.parquet_plain.specs.declared.source.Source.{Source}
 use Rattle.parquet_plain.specs.declared.source.Source.TheVariants as source
 use Rattle.parquet_plain.specs.Tree.{physical_of}
-use Rattle.parquet_plain.specs.Reading.{is_chunk_of, has_natural_numbers, first_byte, codec_fault, is_whole, span_of, chunk_values, leaf_values_by, leaf_values, source_values, columns_values, with_column, with_columns, side_by_side, most_rows, rows_of, group_rows, with_groups}
+use Rattle.parquet_plain.specs.Reading.{is_chunk_of, has_natural_numbers, first_byte, codec_fault, is_whole, span_of, chunk_values, leaf_values_by, leaf_values, source_values, columns_values, with_column, with_columns, side_by_side, rows_of, group_rows, with_groups}
 use Rattle.parquet_plain.specs.Grammar.{IsChunk, HasValues, HaveValues, IsGroup, AreGroups}
 use Rattle.parquet_plain.proofs.WalkRead.{chunk_found, chunk_only}
 use Rattle.parquet_plain.proofs.Steps.{bind_ok, bind_at, if_ok, unless_ok, if_at, unless_at, ok_inside, not_false, false_not, not_is_true, true_not}
@@ -166,19 +167,19 @@ pub length-side_by_side : (count : ℕ) (columns : List (List Datum)) → length
 unfolding side_by_side
 length-side_by_side count columns = length-with_columns columns (replicate count []) ∙ length-replicate count []
 
-rows_found : (name : List ℕ) (before : ℕ) (z : ℤ) (n : ℕ) → rows_of name before z ≡ Ok n → (z ≡ pos n) × (before + n ≤ most_rows)
+rows_found : (name : List ℕ) (before : ℕ) (z : ℤ) (n : ℕ) → rows_of name before z ≡ Ok n → (z ≡ pos n) × (before + n ≤ MAX_FILE_ROWS)
 rows_found name before (pos m) n e =
-    let p = unless_ok (nat_lt most_rows (before + m)) (Ok m) (faults.Shape name) n e in
+    let p = unless_ok (nat_lt MAX_FILE_ROWS (before + m)) (Ok m) (faults.Shape name) n e in
     let same : m ≡ n = ok_inside m n p.1 in
-    (ap pos same, subst (λ k. before + k ≤ most_rows) same (ltb-false most_rows (before + m) p.0))
+    (ap pos same, subst (λ k. before + k ≤ MAX_FILE_ROWS) same (ltb-false MAX_FILE_ROWS (before + m) p.0))
 rows_found name before (negsuc m) n e = absurd cc
 
-rows_only : (name : List ℕ) (before : ℕ) (z : ℤ) (n : ℕ) → z ≡ pos n → before + n ≤ most_rows → rows_of name before z ≡ Ok n
+rows_only : (name : List ℕ) (before : ℕ) (z : ℤ) (n : ℕ) → z ≡ pos n → before + n ≤ MAX_FILE_ROWS → rows_of name before z ≡ Ok n
 rows_only name before z n e few =
-    ap (rows_of name before) e ∙ unless_at (nat_lt most_rows (before + n)) (Err (faults.Shape name)) (Ok n) (le-ltb most_rows (before + n) few)
+    ap (rows_of name before) e ∙ unless_at (nat_lt MAX_FILE_ROWS (before + n)) (Err (faults.Shape name)) (Ok n) (le-ltb MAX_FILE_ROWS (before + n) few)
 
 group_found : (name : List ℕ) (cs : List Source) (file : List ℕ) (before : ℕ) (g : RowGroup) (rows : List (List Datum)) → group_rows name cs file before g ≡ Ok rows
-    → IsGroup cs file g rows × (before + length rows ≤ most_rows)
+    → IsGroup cs file g rows × (before + length rows ≤ MAX_FILE_ROWS)
 unfolding group_rows
 group_found name cs file before g rows e =
     let p = bind_ok (rows_of name before g.num_rows) (λ count. columns_values cs count g.columns file >>= λ columns. Ok (side_by_side count columns)) rows e in
@@ -194,7 +195,7 @@ group_found name cs file before g rows e =
     } in
     (all, omega (arith, n.1, ap length is ∙ length-side_by_side p.0 q.0))
 
-group_only : (name : List ℕ) (cs : List Source) (file : List ℕ) (before : ℕ) (g : RowGroup) (rows : List (List Datum)) → IsGroup cs file g rows → before + length rows ≤ most_rows
+group_only : (name : List ℕ) (cs : List Source) (file : List ℕ) (before : ℕ) (g : RowGroup) (rows : List (List Datum)) → IsGroup cs file g rows → before + length rows ≤ MAX_FILE_ROWS
     → group_rows name cs file before g ≡ Ok rows
 unfolding group_rows
 group_only name cs file before g rows h few =
@@ -203,12 +204,12 @@ group_only name cs file before g rows h few =
     ∙ bind_at (columns_values cs h.count g.columns file) (λ columns. Ok (side_by_side h.count columns)) h.columns (columns_only cs h.count g.columns file h.columns h.held)
     ∙ ap Ok (sym h.beside)
 
-pub groups_found : (name : List ℕ) (cs : List Source) (file : List ℕ) (before : List (List Datum)) (gs : List RowGroup) (rows : List (List Datum)) → length before ≤ most_rows
+pub groups_found : (name : List ℕ) (cs : List Source) (file : List ℕ) (before : List (List Datum)) (gs : List RowGroup) (rows : List (List Datum)) → length before ≤ MAX_FILE_ROWS
     → with_groups name cs file before gs ≡ Ok rows
-    → (more : List (List Datum)) × AreGroups cs file gs more × (rows ≡ before ++ more) × (length rows ≤ most_rows)
+    → (more : List (List Datum)) × AreGroups cs file gs more × (rows ≡ before ++ more) × (length rows ≤ MAX_FILE_ROWS)
 groups_found name cs file before [] rows few e =
     let same : before ≡ rows = ok_inside before rows e in
-    ([], refl, sym (append-nil before ∙ same), subst (λ rs. length rs ≤ most_rows) same few)
+    ([], refl, sym (append-nil before ∙ same), subst (λ rs. length rs ≤ MAX_FILE_ROWS) same few)
 groups_found name cs file before (g ∷ gs) rows few e =
     let p = bind_ok (group_rows name cs file (length before) g) (λ more. with_groups name cs file (before ++ more) gs) rows e in
     let f = group_found name cs file (length before) g p.0 p.1 in
@@ -216,7 +217,7 @@ groups_found name cs file before (g ∷ gs) rows few e =
     (p.0 ++ r.0, (p.0, r.0, f.0, r.1, refl), r.2 ∙ append_assoc before p.0 r.0, r.3)
 
 pub groups_only : (name : List ℕ) (cs : List Source) (file : List ℕ) (before : List (List Datum)) (gs : List RowGroup) (rows : List (List Datum)) → AreGroups cs file gs rows
-    → length before + length rows ≤ most_rows → with_groups name cs file before gs ≡ Ok (before ++ rows)
+    → length before + length rows ≤ MAX_FILE_ROWS → with_groups name cs file before gs ≡ Ok (before ++ rows)
 groups_only name cs file before [] rows h few = ap Ok (sym (ap (λ rs. before ++ rs) h ∙ append-nil before))
 groups_only name cs file before (g ∷ gs) rows h few =
     let n : length rows ≡ length h.0 + length h.1 = ap length h.4 ∙ length-append h.0 h.1 in

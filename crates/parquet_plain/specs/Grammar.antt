@@ -2,6 +2,7 @@
 -- parquet.thrift), apart from reading and from writing.
 use Rattle.std.specs.Prelude.{◌≡◌, ◌↔◌, ℕ, zero, suc, ◌+◌, ◌≤◌, true, false, List, [], ◌∷◌, ◌++◌, length, slice_index_or, Option, Some, None, Ok, pos, unsigned_abs}
 use Rattle.std.specs.List.{All, find, list_any}
+use Rattle.row_base.specs.declared.limits.TheConstants.{MAX_FILE_ROWS}
 use Rattle.row_base.specs.declared.row.Datum.{Datum}
 use Rattle.row_base.specs.declared.row.Datum.TheVariants as datum
 use Rattle.row_base.specs.Schema.{TableSchema}
@@ -18,7 +19,7 @@ use Rattle.parquet_plain.specs.declared.source.Leaf.{Leaf}
 use Rattle.parquet_plain.specs.declared.source.Source.{Source}
 use Rattle.parquet_plain.specs.declared.source.Source.TheVariants as source
 use Rattle.parquet_plain.specs.Tree.{physical_of, has_numbers_in_range, is_group, is_flat, is_other_type, children_of, sources_from}
-use Rattle.parquet_plain.specs.Reading.{is_chunk_of, has_natural_numbers, first_byte, page_end, side_by_side, most_rows, file_rows}
+use Rattle.parquet_plain.specs.Reading.{is_chunk_of, has_natural_numbers, first_byte, page_end, side_by_side, file_rows}
 
 -- the head of a page stands at this place, and the page's body behind it
 pub record HeadStands (file : List ℕ) (at : ℕ) (page : PageAt) : Type 0 where
@@ -119,7 +120,7 @@ pub record FileRows (s : TableSchema) (file : List ℕ) (rows : List (List Datum
   pub footer : IsFile file meta
   pub tree : IsTree (sources_from s.partition leaves 0 s.columns) meta.schema leaves
   pub groups : AreGroups (sources_from s.partition leaves 0 s.columns) file meta.row_groups rows
-  pub few : length rows ≤ most_rows
+  pub few : length rows ≤ MAX_FILE_ROWS
 
 -- the row at a place of columns, with null where a column has no value
 abbrev pub row_at : ℕ → List (List Datum) → List Datum

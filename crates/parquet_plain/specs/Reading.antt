@@ -2,6 +2,7 @@
 use Rattle.std.specs.Prelude.{ℕ, zero, suc, ◌+◌, ◌-◌, ◌==◌, nat_lt, Bool, true, false, not, ◌&&◌, ◌||◌, if◌then◌else◌, List, [], ◌∷◌, ◌++◌, length, map, replicate, drop, Option, Some, None, is_some, Result, Ok, Err, ℤ, pos, negsuc, unsigned_abs}
 use Rattle.std.specs.List.{find}
 use Rattle.std.specs.Ordering.{int_eq}
+use Rattle.row_base.specs.declared.limits.TheConstants.{MAX_FILE_ROWS}
 use Rattle.row_base.specs.declared.row.Datum.{Datum}
 use Rattle.row_base.specs.declared.row.Datum.TheVariants as datum
 use Rattle.row_base.specs.declared.schema.Column.{Column}
@@ -202,13 +203,9 @@ abbrev pub row_by_row : ℕ → List (List Datum) → List (List Datum)
 row_by_row zero columns = []
 row_by_row (suc count) columns = map head_or_null columns ∷ row_by_row count (map (drop 1) columns)
 
--- the most rows of a file
-abbrev pub most_rows : ℕ
-most_rows = 16777216
-
 -- how many rows a group has behind so many others, where there are no more than a file may have
 abbrev pub rows_of : List ℕ → ℕ → ℤ → Result ℕ FileFault
-rows_of name before (pos n) = if nat_lt most_rows (before + n) then Err (faults.Shape name) else Ok n
+rows_of name before (pos n) = if nat_lt MAX_FILE_ROWS (before + n) then Err (faults.Shape name) else Ok n
 rows_of name before (negsuc n) = Err (faults.Shape name)
 
 -- the rows of a group, behind so many others

@@ -111,7 +111,7 @@ pub(crate) fn append_chunk(
     values: &[Datum],
     out: &mut Vec<u8>,
 ) -> Result<ColumnChunk, NoMemory>
-    requires few { length values.now ≤ 16384 }
+    requires few { length values.now ≤ spec.group_rows_most }
     requires stand { All (CanStand column.now.kind column.now.nullable) values.now }
     ensures text { OnOk result (out.new.items ≡ out.old.items ++ spec.chunk_text column.now values.now) }
     ensures entry { IfOk result (λ c. c ≡ spec.chunk_entry column.now values.now (length out.old.items)) }

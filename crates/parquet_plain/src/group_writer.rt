@@ -28,7 +28,7 @@ fn append_chunks(
     rows: &RowSlice<'_>,
     out: &mut Vec<u8>,
 ) -> Result<Vec<ColumnChunk>, NoMemory>
-    requires few { length rows.now ≤ 16384 }
+    requires few { length rows.now ≤ spec.group_rows_most }
     requires fits { All (FitsSchema schema.now) rows.now }
     ensures text { OnOk result (out.new.items ≡ out.old.items ++ spec.chunks_text schema.now.partition rows.now 0 schema.now.columns) }
     ensures entries { IfOk result (λ v. v.items ≡ spec.chunk_entries schema.now.partition rows.now (length out.old.items) 0 schema.now.columns) }
@@ -51,7 +51,7 @@ fn append_group(
     rows: &RowSlice<'_>,
     out: &mut Vec<u8>,
 ) -> Result<RowGroup, NoMemory>
-    requires few { length rows.now ≤ 16384 }
+    requires few { length rows.now ≤ spec.group_rows_most }
     requires fits { All (FitsSchema schema.now) rows.now }
     ensures text { OnOk result (out.new.items ≡ out.old.items ++ spec.group_text schema.now rows.now) }
     ensures entry { IfOk result (λ g. g ≡ spec.group_entry schema.now (length out.old.items) rows.now) }
@@ -70,7 +70,7 @@ fn append_group(
 fn next_group<'a>(rows: &RowSlice<'a>) -> (RowSlice<'a>, RowSlice<'a>)
     ensures group { result.0 ≡ take spec.group_rows_most rows.now }
     ensures later { result.1 ≡ drop spec.group_rows_most rows.now }
-    ensures few { length result.0 ≤ 16384 }
+    ensures few { length result.0 ≤ spec.group_rows_most }
     ensures fewer { 0 < length rows.now → length result.1 < length rows.now }
 {
     rows.split_at(rows.len().min(GROUP_ROWS))

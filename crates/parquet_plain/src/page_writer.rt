@@ -98,7 +98,7 @@ fn append_values(
     values: &[Datum],
     out: &mut Vec<u8>,
 ) -> Result<(), NoMemory>
-    requires few { length values.now ≤ 4096 }
+    requires few { length values.now ≤ spec.page_values_most }
     requires stand { All (CanStand column.now.kind column.now.nullable) values.now }
     requires placed { spec.AreIn dictionary.now column.now.nullable values.now }
     requires places { spec.ArePlaces dictionary.now values.now places.now }
@@ -121,7 +121,7 @@ fn append_values(
 fn next_page(values: &[Datum]) -> (&[Datum], &[Datum])
     ensures page { result.0.now ≡ take spec.page_values_most values.now }
     ensures later { result.1.now ≡ drop spec.page_values_most values.now }
-    ensures few { length result.0.now ≤ 4096 }
+    ensures few { length result.0.now ≤ spec.page_values_most }
     ensures fewer { 0 < length values.now → length result.1.now < length values.now }
 {
     values.split_at(values.len().min(PAGE_VALUES))

@@ -27,8 +27,8 @@ fn first_name(alloc: Global, schema: &Schema) -> Result<Text, NoMemory>
 /// The fault is the first one in reading order: the footer (`Short`, `Magic`, `Footer`, `Thrift`), the schema's elements in
 /// order (`Nested`, `Physical`, `Shape` with the element's name), then the row groups in order, and in each the columns in
 /// the schema's order: the chunk (`Physical`, `Codec`, `Shape` with the column's name) and its pages (`Thrift`, `Page` at
-/// the place of a head or of a body, `Encoding`, `PageKind`, `Shape`). A group with which there are more than 16,777,216
-/// rows is `Shape` of the first column that is no partition column.
+/// the place of a head or of a body, `Encoding`, `PageKind`, `Shape`). A group with which there are more than
+/// `MAX_FILE_ROWS` rows is `Shape` of the first column that is no partition column.
 #[tactic(auto, unfolding(crate::specs::Reading::file_rows))]
 pub fn read_file(alloc: Global, schema: &Schema, bytes: &[u8]) -> Result<Rows, FileFault>
     ensures { Reads result (spec.file_rows schema.now bytes.now) }

@@ -1,6 +1,7 @@
 //! The file of rows.
 ghost use Rattle.std.specs.Prelude.{◌≡◌, ◌++◌, ◌≤◌, length, IfOk, OnOk};
 ghost use Rattle.std.specs.List.{All};
+ghost use Rattle.row_base.specs.declared.limits.TheConstants.{MAX_FILE_ROWS};
 ghost use Rattle.row_base.specs.Schema.{FitsSchema};
 ghost use Rattle.parquet_plain.specs.Written as spec;
 ghost use Rattle.parquet_meta.specs.Written.{footer_text};
@@ -40,7 +41,7 @@ fn meta_of(
     rows: &Rows,
     groups: Vec<RowGroup>,
 ) -> Result<FileMeta, NoMemory>
-    requires few { length rows.now ≤ 16777216 }
+    requires few { length rows.now ≤ MAX_FILE_ROWS }
     requires groups { groups.items ≡ spec.group_entries schema.now 4 (spec.groups_of rows.now) }
     ensures { IfOk result (λ m. m ≡ spec.meta_of schema.now rows.now) }
 {
@@ -54,11 +55,11 @@ fn meta_of(
 
 /// The Parquet file of these rows, without the partition columns: groups of at most 16,384 rows, pages of at most 4,096
 /// values, each full but the last, and dictionaries where they pay (Parquet format, README.md, "File format"). A page's
-/// body of 2^31 bytes or more, which texts of at most 65,535 bytes never make, is refused as one for which no memory is
-/// left.
+/// body of 2^31 bytes or more, which texts of at most `MAX_TEXT_BYTES` never make, is refused as one for which no
+/// memory is left.
 #[tactic(auto, unfolding(crate::specs::Written::file_text))]
 pub fn write_file(alloc: Global, schema: &Schema, rows: &Rows) -> Result<Vec<u8>, NoMemory>
-    requires few { length rows.now ≤ 16777216 }
+    requires few { length rows.now ≤ MAX_FILE_ROWS }
     requires fits { All (FitsSchema schema.now) rows.now }
     ensures { IfOk result (λ v. v.items ≡ spec.file_text schema.now rows.now) }
 {

@@ -4,6 +4,7 @@ use Rattle.std.specs.List.{list_any, All}
 use Rattle.std.specs.Str.{bytes_eq}
 use Rattle.std.proofs.lemmas.List.Elements.{All-cons, All-nil}
 use Rattle.json_lines.specs.Kinds.{NullableEntry}
+use Rattle.row_base.specs.declared.limits.TheConstants.{MAX_TEXT_BYTES}
 use Rattle.row_base.specs.declared.row.Datum.{Datum}
 use Rattle.row_base.specs.declared.row.Datum.TheVariants as datum
 use Rattle.row_base.specs.declared.row.Kind.{Kind}
@@ -43,7 +44,7 @@ of_kind kind.Integer text d e = of_integer (option_and_then if_i32 (long_in text
 of_kind kind.Boolean text d e =
     of_either (bytes_eq text (codes "true")) (datum.Boolean true) d _ tt
     (of_either (bytes_eq text (codes "false")) (datum.Boolean false) d None tt (of_none d)) e
-of_kind kind.String text d e = of_either (nat_le (length text) 65535) (datum.Text text) d None tt (of_none d) e
+of_kind kind.String text d e = of_either (nat_le (length text) MAX_TEXT_BYTES) (datum.Text text) d None tt (of_none d) e
 of_kind kind.Date text d e = of_date (date_in text) text d refl e
 
 of_text : (c : Column) (text : Option (List ℕ)) (d : Datum) → datum_by c text ≡ Some d → HasText d

@@ -5,6 +5,7 @@ use Rattle.std.specs.Cmp.Lexicographic.{pointwise, bytes_decides}
 use Rattle.std.proofs.lemmas.Bool.{true≢false, false_from_ne_true, ltb-true, ltb-false}
 use Rattle.std.proofs.lemmas.List.Folds.{list_any_none, list_any_at}
 use Rattle.serde_json.specs.Data.{Data, Items, no_items, item}
+use Rattle.row_base.specs.declared.limits.TheConstants.{MAX_COLUMNS}
 use Rattle.row_base.specs.declared.row.Kind.{Kind}
 use Rattle.row_base.specs.declared.schema.Column.{Column}
 use Rattle.row_base.specs.declared.schema.SchemaFault.{SchemaFault}
@@ -56,17 +57,17 @@ by_kind before d f shape (Some k) e false i = rw i (shaped before d f shape (Som
 
 column_says : (before : List Column) (d : Data) (f : Field) → field_of d ≡ Some f → SaysColumn before d (column_of before f)
 unfolding column_of
-column_says before d f form = by (nat_lt (length before) 64) refl (is_named before f.name) refl
+column_says before d f form = by (nat_lt (length before) MAX_COLUMNS) refl (is_named before f.name) refl
   where
-    by : (a : Bool) → nat_lt (length before) 64 ≡ a → (b : Bool) → is_named before f.name ≡ b
+    by : (a : Bool) → nat_lt (length before) MAX_COLUMNS ≡ a → (b : Bool) → is_named before f.name ≡ b
         → SaysColumn before d (cond (a && not b) (column_of_kind f f.kind) (Err faults.Shape))
     by true l true n = λ g shape.
         let same : g ≡ f = inside (sym shape.form ∙ form) in
         true≢false (sym n ∙ own_name before f.name (subst (λ (h : Field). All (λ c. c.name ≢ h.name) before) same shape.own_name))
-    by true l false n = by_kind before d f (record { form = form; own_name = no_name before f.name n; few = ltb-true (length before) 64 l }) f.kind refl f.has_invariant refl
+    by true l false n = by_kind before d f (record { form = form; own_name = no_name before f.name n; few = ltb-true (length before) MAX_COLUMNS l }) f.kind refl f.has_invariant refl
     by false l b n = λ g shape.
         let few = shape.few in
-        let many = ltb-false (length before) 64 l in
+        let many = ltb-false (length before) MAX_COLUMNS l in
         absurd (omega arith)
 
 next_says : (before : List Column) (d : Data) → SaysColumn before d (next_column before d)

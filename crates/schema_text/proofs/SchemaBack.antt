@@ -6,6 +6,7 @@ use Rattle.serde_json.specs.Data.{depth, items_depth}
 use Rattle.serde_json.specs.Written.{has_float, items_have_float}
 use Rattle.json_lines.specs.Kinds.{as_itself, present, needed}
 use Rattle.json_lines.specs.Lines.{value_of_line, object_of_line}
+use Rattle.row_base.specs.declared.limits.TheConstants.{MAX_COLUMNS}
 use Rattle.row_base.specs.declared.row.Kind.{Kind}
 use Rattle.row_base.specs.declared.row.Kind.TheVariants as kind
 use Rattle.row_base.specs.declared.schema.Column.{Column}
@@ -58,10 +59,10 @@ text_back : (text : List ℕ) (cs : List Column) → value_of_line text ≡ Some
 unfolding fields_of_text object_of_line schema_data
 text_back text cs e = ap (λ o. option_and_then struct_fields (option_and_then as_itself o)) e ∙ struct_back cs
 
-few_enough : (n : ℕ) → n < 64 → nat_lt n 64 ≡ true
+few_enough : (n : ℕ) → n < MAX_COLUMNS → nat_lt n MAX_COLUMNS ≡ true
 few_enough n h = grind (arith, nat_tests)
 
-column_back : (before : List Column) (c : Column) → is_named before c.name ≡ false → length before < 64 → next_column before (field_data c) ≡ Ok c
+column_back : (before : List Column) (c : Column) → is_named before c.name ≡ false → length before < MAX_COLUMNS → next_column before (field_data c) ≡ Ok c
 unfolding next_column column_of
 column_back before c own few = rw (field_back c, few_enough (length before) few, own) refl
 
@@ -69,7 +70,7 @@ none_here : {A : Type 0} (b : Bool) (x : A) (o : Option A) → cond b (Some x) o
 none_here true x o e = cc
 none_here false x o e = (refl, e)
 
-columns_back : (before cs : List Column) → first_after repeats_name before cs ≡ None → length before + length cs ≤ 64 → columns_from before (fields_data cs) ≡ Ok (before ++ cs)
+columns_back : (before cs : List Column) → first_after repeats_name before cs ≡ None → length before + length cs ≤ MAX_COLUMNS → columns_from before (fields_data cs) ≡ Ok (before ++ cs)
 columns_back before [] e h = ap Ok (sym (append-nil before))
 columns_back before (c ∷ cs) e h =
     let parts = none_here (repeats_name before c) (length before, c) (first_after repeats_name (before ++ c ∷ []) cs) e in

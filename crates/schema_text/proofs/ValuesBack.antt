@@ -13,6 +13,7 @@ use Rattle.std.proofs.lemmas.Slice.Eq.{bytes_eq-Decides}
 use Rattle.std.specs.Str.{bytes_eq}
 use Rattle.schema_text.specs.declared.fault.SchemaTextFault.{SchemaTextFault}
 use Rattle.std.proofs.lemmas.Map.Text.{is_eq-slice_cmp}
+use Rattle.row_base.specs.declared.limits.TheConstants.{MAX_TEXT_BYTES}
 use Rattle.row_base.specs.declared.row.Datum.{Datum}
 use Rattle.row_base.specs.declared.row.Datum.TheVariants as datum
 use Rattle.row_base.specs.declared.row.Kind.{Kind}
@@ -84,7 +85,7 @@ boolean_back false false c d k e = cc
 
 text_back : (b : ℕ) (bs : List ℕ) (c : Column) (d : Datum) → c.kind ≡ kind.String → datum_of kind.String (b ∷ bs) ≡ Some d → datum_by c (filled (Some (datum_text d))) ≡ Some d
 text_back b bs c d k e =
-    let is = (some_if (nat_le (length (b ∷ bs)) 65535) (datum.Text (b ∷ bs)) d e).1 in
+    let is = (some_if (nat_le (length (b ∷ bs)) MAX_TEXT_BYTES) (datum.Text (b ∷ bs)) d e).1 in
     subst (λ x. datum_by c (filled (Some (datum_text x))) ≡ Some x) is (ap (λ m. datum_of m (b ∷ bs)) k ∙ e ∙ ap Some (sym is))
 
 date_back : (o : Option ℤ) (b : ℕ) (bs : List ℕ) (c : Column) (d : Datum) → c.kind ≡ kind.Date → date_in (b ∷ bs) ≡ o → option_map datum.Date o ≡ Some d → datum_by c (filled (Some (datum_text d))) ≡ Some d

@@ -2,6 +2,7 @@
 use Rattle.std.specs.Prelude.{◌≡◌, ◌≢◌, ℕ, ◌<◌, Bool, true, false, List, [], ◌∷◌, ◌++◌, length, Some, None}
 use Rattle.std.specs.List.{All}
 use Rattle.serde_json.specs.Data.{Data, Items, no_items, item}
+use Rattle.row_base.specs.declared.limits.TheConstants.{MAX_COLUMNS}
 use Rattle.row_base.specs.declared.row.Kind.{Kind}
 use Rattle.row_base.specs.declared.schema.Column.{Column}
 use Rattle.row_base.specs.Schema.{TableSchema, IsSchema}
@@ -16,11 +17,11 @@ abbrev pub items_list : Items → List Data
 items_list no_items = []
 items_list (item d ds) = d ∷ items_list ds
 
--- behind these columns a field has the shape that it needs: its form, a name of its own, and a place among the first 64
+-- behind these columns a field has the shape that it needs: its form, a name of its own, and a place among the first MAX_COLUMNS
 pub record HasShape (before : List Column) (d : Data) (f : Field) : Type 0 where
   pub form : field_of d ≡ Some f
   pub own_name : All (λ c. c.name ≢ f.name) before
-  pub few : length before < 64
+  pub few : length before < MAX_COLUMNS
 
 -- a field of a supported type and without an invariant stands for this column
 abbrev pub IsColumn : List Column → Data → Column → Type 0

@@ -4,6 +4,7 @@ use Rattle.std.specs.List.{list_any}
 use Rattle.std.specs.Str.{bytes_eq}
 use Rattle.std.specs.Cmp.Lexicographic.{pointwise}
 use Rattle.json_lines.specs.Kinds.{NullableEntry}
+use Rattle.row_base.specs.declared.limits.TheConstants.{MAX_TEXT_BYTES}
 use Rattle.row_base.specs.declared.row.Datum.{Datum}
 use Rattle.row_base.specs.declared.row.Datum.TheVariants as datum
 use Rattle.row_base.specs.declared.row.Kind.{Kind}
@@ -38,9 +39,9 @@ boolean_datum text =
     if bytes_eq text (codes "true") then Some (datum.Boolean true)
     else (if bytes_eq text (codes "false") then Some (datum.Boolean false) else None)
 
--- a text has at most 65,535 bytes
+-- a text has at most MAX_TEXT_BYTES
 abbrev pub text_datum : List ℕ → Option Datum
-text_datum text = if nat_le (length text) 65535 then Some (datum.Text text) else None
+text_datum text = if nat_le (length text) MAX_TEXT_BYTES then Some (datum.Text text) else None
 
 -- a date
 abbrev pub date_datum : List ℕ → Option Datum

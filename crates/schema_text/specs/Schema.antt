@@ -4,6 +4,7 @@ use Rattle.std.specs.Prelude.{ℕ, ◌==◌, nat_lt, not, ◌&&◌, if◌then◌
 use Rattle.std.specs.List.{position}
 use Rattle.std.specs.Cmp.Lexicographic.{pointwise}
 use Rattle.serde_json.specs.Data.{Data, Items, no_items, item}
+use Rattle.row_base.specs.declared.limits.TheConstants.{MAX_COLUMNS}
 use Rattle.row_base.specs.declared.row.Kind.{Kind}
 use Rattle.row_base.specs.declared.schema.Column.{Column}
 use Rattle.row_base.specs.declared.schema.SchemaFault.{SchemaFault}
@@ -25,10 +26,10 @@ column_of_kind f None = Err (faults.Kind f.name)
 column_of_kind f (Some k) =
     if f.has_invariant then Err (faults.Invariant f.name) else Ok (record { name = f.name; kind = k; nullable = f.nullable })
 
--- the column of a field behind these columns: at most 64, with names of their own
+-- the column of a field behind these columns: at most MAX_COLUMNS, with names of their own
 unfoldable pub column_of : List Column → Field → Result Column SchemaTextFault
 column_of before f =
-    if nat_lt (length before) 64 && not (is_named before f.name) then column_of_kind f f.kind else Err faults.Shape
+    if nat_lt (length before) MAX_COLUMNS && not (is_named before f.name) then column_of_kind f f.kind else Err faults.Shape
 
 -- the column of a field's data behind these columns
 unfoldable pub next_column : List Column → Data → Result Column SchemaTextFault

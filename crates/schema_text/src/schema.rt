@@ -1,6 +1,7 @@
 //! The schema that a text stands for.
 ghost use Rattle.std.specs.Prelude.{◌≡◌, ◌≢◌, ◌<◌, ◌≤◌, [], length, option_map, IfOk, IfErr, IfSome, Ok, MatchResult};
 ghost use Rattle.serde_json.specs.View.{view, items_view};
+ghost use Rattle.row_base.specs.declared.limits.TheConstants.{MAX_COLUMNS};
 ghost use Rattle.row_base.specs.Schema.{is_named};
 ghost use Rattle.schema_text.specs.declared.fault.SchemaTextFault.TheVariants as faults;
 ghost use Rattle.row_base.specs.Faults.{Reads, FaultOf};
@@ -48,7 +49,7 @@ fn column_of_kind(field: Field) -> Result<Column, SchemaTextFault>
 #[tactic(auto, unfolding(crate::specs::Schema::column_of))]
 fn column_of(columns: &[Column], field: Field) -> Result<Column, SchemaTextFault>
     ensures column { Reads is_memory result (spec.column_of columns.now field) }
-    ensures few { IfOk result (λ _. length columns.now < 64) }
+    ensures few { IfOk result (λ _. length columns.now < MAX_COLUMNS) }
 {
     if columns.len() < MAX_COLUMNS && !has_name(columns, &field.name) {
         column_of_kind(field)
@@ -61,7 +62,7 @@ fn column_of(columns: &[Column], field: Field) -> Result<Column, SchemaTextFault
 #[tactic(auto, unfolding(crate::specs::Schema::next_column))]
 fn next_column(alloc: Global, columns: &[Column], value: &Value) -> Result<Column, SchemaTextFault>
     ensures column { Reads is_memory result (spec.next_column columns.now (view value.now)) }
-    ensures few { IfOk result (λ _. length columns.now < 64) }
+    ensures few { IfOk result (λ _. length columns.now < MAX_COLUMNS) }
 {
     let field = read_field(alloc, value)?;
     column_of(columns, field)
@@ -69,7 +70,7 @@ fn next_column(alloc: Global, columns: &[Column], value: &Value) -> Result<Colum
 
 /// The columns of all fields.
 fn columns_of(alloc: Global, fields: &[Value]) -> Result<Vec<Column>, SchemaTextFault>
-    ensures few { IfOk result (λ v. length v.items ≤ 64) }
+    ensures few { IfOk result (λ v. length v.items ≤ MAX_COLUMNS) }
     ensures columns { MatchResult result (λ v. spec.columns_from [] (items_view fields.now) ≡ Ok v.items)
         (λ e. FaultOf is_memory e (spec.columns_from [] (items_view fields.now))) }
 {
@@ -94,7 +95,7 @@ fn places_of(
     columns: &[Column],
     names: &[Text],
 ) -> Result<Option<Vec<u32>>, NoMemory>
-    requires { length columns.now ≤ 64 }
+    requires { length columns.now ≤ MAX_COLUMNS }
     ensures { IfOk result (λ o. option_map (λ v. v.items) o ≡ spec.places_in columns.now names.now) }
 {
     let mut places = Vec::new(alloc);
@@ -118,7 +119,7 @@ fn schema_at(columns: Vec<Column>, places: Vec<u32>) -> Result<Schema, SchemaTex
 
 #[tactic(auto, unfolding(crate::specs::Schema::schema_by))]
 fn schema_by(alloc: Global, names: &[Text], columns: Vec<Column>) -> Result<Schema, SchemaTextFault>
-    requires { length columns.items ≤ 64 }
+    requires { length columns.items ≤ MAX_COLUMNS }
     ensures { Reads is_memory result (spec.schema_by names.now columns.items) }
 {
     match places_of(alloc, &columns, names)? {
@@ -144,8 +145,8 @@ fn schema_in(alloc: Global, text: &Text, partition: &[Text]) -> Result<Schema, S
 /// The schema that a text stands for (PROTOCOL.md, "Schema Serialization Format"), partitioned by the columns of these
 /// names in their order, or the first fault by place. The text is JSON of a struct type with a list of fields. Then come
 /// the fields in order, and at one field first its shape: a name that no field before has, a type, a flag that says
-/// whether it is nullable, and metadata, among the first 64; then a type that is supported; then that it has no
-/// invariant. In the end the columns and the partition make a schema.
+/// whether it is nullable, and metadata, among the first `MAX_COLUMNS`; then a type that is supported; then that it
+/// has no invariant. In the end the columns and the partition make a schema.
 pub fn read_schema(
     alloc: Global,
     text: &Text,

@@ -5,6 +5,7 @@ use Rattle.std.proofs.lemmas.List.Elements.{All-map}
 use Rattle.actor_core.specs.declared.schedule.Item.{Item}
 use Rattle.op_types.specs.declared.statement.Statement.{Statement}
 use Rattle.script_text.specs.declared.script.SessionScript.{SessionScript}
+use Rattle.row_base.specs.declared.limits.TheConstants.{MAX_STATEMENTS}
 use Rattle.row_base.specs.declared.row.Datum.{Datum}
 use Rattle.row_base.specs.declared.row.Datum.TheVariants as datum
 use Rattle.op_types.specs.declared.statement.Statement.TheVariants as statement
@@ -23,10 +24,10 @@ from_map {X} {Y} P f xs all = λ k d within. subst P (get_or-map f xs k d (f d) 
 
 -- each session has few statements
 pub few_statements : (n : ℕ) (ss : List SessionScript) (vs : Lists) → map (λ (v : Vec Statement Global). v.items) vs ≡ map (λ (s : SessionScript). s.statements) ss
-    → All (IsFitSession n) ss → All (λ (v : Vec Statement Global). length v.items ≤ 4096) vs
+    → All (IsFitSession n) ss → All (λ (v : Vec Statement Global). length v.items ≤ MAX_STATEMENTS) vs
 few_statements n ss vs same fit =
-    let few : All (λ (l : List Statement). length l ≤ 4096) (map (λ (s : SessionScript). s.statements) ss) = All-map (λ (l : List Statement). length l ≤ 4096) (λ (s : SessionScript). s.statements) ss (λ k d within. (fit k d within).count) in
-    from_map (λ (l : List Statement). length l ≤ 4096) (λ (v : Vec Statement Global). v.items) vs (subst (λ (ls : List (List Statement)). All (λ (l : List Statement). length l ≤ 4096) ls) (sym same) few)
+    let few : All (λ (l : List Statement). length l ≤ MAX_STATEMENTS) (map (λ (s : SessionScript). s.statements) ss) = All-map (λ (l : List Statement). length l ≤ MAX_STATEMENTS) (λ (s : SessionScript). s.statements) ss (λ k d within. (fit k d within).count) in
+    from_map (λ (l : List Statement). length l ≤ MAX_STATEMENTS) (λ (v : Vec Statement Global). v.items) vs (subst (λ (ls : List (List Statement)). All (λ (l : List Statement). length l ≤ MAX_STATEMENTS) ls) (sym same) few)
 
 pub as_many : (ss : List SessionScript) (vs : Lists) → map (λ (v : Vec Statement Global). v.items) vs ≡ map (λ (s : SessionScript). s.statements) ss → length ss ≡ length vs
 as_many ss vs same = sym (length-map ss (λ (s : SessionScript). s.statements)) ∙ ap length (sym same) ∙ length-map vs (λ (v : Vec Statement Global). v.items)

@@ -1,6 +1,7 @@
 -- What a read of a script gives, by how it ends, and what is said of that.
 use Rattle.std.specs.Prelude.{◌⊎◌, ◌≤◌, ℕ, List, length, Option}
 use Rattle.std.specs.Io.KnownBytes.{Appends}
+use Rattle.row_base.specs.declared.limits.TheConstants.{MAX_SCRIPT_BYTES}
 use Rattle.edge_api.specs.Streams.{ReadsAll, GivesMore, GivesAtMost, AppendsPrefix}
 use Rattle.edge_api.specs.World.{Rose}
 use Rattle.script_text.specs.declared.script.Script.{Script}
@@ -11,7 +12,7 @@ use Rattle.script_runs.specs.declared.status.Status.TheVariants.{Done, NoScript,
 
 -- the greatest length of a script in bytes
 abbrev pub limit : ℕ
-limit = 16777216
+limit = MAX_SCRIPT_BYTES
 
 -- the bytes of a source or a sink, where they are told
 abbrev pub ToldBytes : Type 0

@@ -41,8 +41,8 @@ fn parse(alloc: Global, bytes: &[u8]) -> Result<Script, Status>
     }
 }
 
-/// Reads a source to its end, of at most 16,777,216 bytes, as a script. The error is the status: `NoScript`, `ReadFault`,
-/// `TooLong` or `NoMemory`.
+/// Reads a source to its end, of at most `MAX_SCRIPT_BYTES`, as a script. The error is the status: `NoScript`,
+/// `ReadFault`, `TooLong` or `NoMemory`.
 pub fn read_script<S: Source>(alloc: Global, source: &mut S) -> Result<Script, Status>
     ensures ok { IfOk result (ReadsScript (record { bytes = S.left source.old; faults = S.faults source.old }) (record { bytes = S.left source.new; faults = S.faults source.new })) }
     ensures fit { IfOk result IsFit }

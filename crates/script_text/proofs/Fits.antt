@@ -9,6 +9,7 @@ use Rattle.std.proofs.lemmas.List.Concat.{flat_map-cons}
 use Rattle.std.proofs.lemmas.List.Elements.{All-append, All-push}
 use Rattle.actor_core.specs.declared.schedule.Item.{Item}
 use Rattle.actor_core.specs.declared.schedule.ItemForm.{ItemForm}
+use Rattle.row_base.specs.declared.limits.TheConstants.{MAX_ATTEMPTS, MAX_STATEMENT_ROWS, MAX_STATEMENTS, MAX_SCHEDULE_ITEMS, MAX_SESSIONS}
 use Rattle.row_base.specs.declared.row.Datum.{Datum as ADatum}
 use Rattle.row_base.specs.declared.row.Datum.TheVariants as datum
 use Rattle.op_types.specs.declared.statement.Statement.{Statement as AStatement}
@@ -42,13 +43,13 @@ no_elements P k d h = absurd (omega arith)
 -- a limit of puts that was read
 abbrev IsLimit : Option ℕ → Type 0
 IsLimit None = Unit {0}
-IsLimit (Some n) = (1 ≤ n) × (n ≤ 1000000)
+IsLimit (Some n) = (1 ≤ n) × (n ≤ MAX_ATTEMPTS)
 
 limit_read : (n : ℤ) → IsLimit (attempts_of n)
-limit_read (pos n) = by_test (nat_le 1 n && nat_le n 1000000) refl
+limit_read (pos n) = by_test (nat_le 1 n && nat_le n MAX_ATTEMPTS) refl
   where
-    by_test : (c : Bool) → (nat_le 1 n && nat_le n 1000000) ≡ c → IsLimit (cond c (Some n) None)
-    by_test true e = let k = and_true (nat_le 1 n) (nat_le n 1000000) e in (le_from 1 n k.0, le_from n 1000000 k.1)
+    by_test : (c : Bool) → (nat_le 1 n && nat_le n MAX_ATTEMPTS) ≡ c → IsLimit (cond c (Some n) None)
+    by_test true e = let k = and_true (nat_le 1 n) (nat_le n MAX_ATTEMPTS) e in (le_from 1 n k.0, le_from n MAX_ATTEMPTS k.1)
     by_test false e = tt
 limit_read (negsuc n) = tt
 
@@ -135,7 +136,7 @@ record IsFitCurrent (s : Script) (current : SessionScript) : Type 0 where
   script : IsFit s
   no_items : s.items ≡ []
   session : IsFitSession (column_count s.header) current
-  room : length s.sessions + 1 ≤ 64
+  room : length s.sessions + 1 ≤ MAX_SESSIONS
 
 record IsFitHeaded (s : Script) : Type 0 where
   script : IsFit s
@@ -165,7 +166,7 @@ closed_fit s current f = record {
   items = subst (All (OfSession (length (s.sessions ++ current ∷ [])))) (sym f.no_items) (no_elements _);
 }
 
-with_one : (s : Script) (current : SessionScript) (x : AStatement) → IsFitCurrent s current → IsFitStatement (column_count s.header) x → length current.statements < 4096 → IsFitCurrent s (with_statement current x)
+with_one : (s : Script) (current : SessionScript) (x : AStatement) → IsFitCurrent s current → IsFitStatement (column_count s.header) x → length current.statements < MAX_STATEMENTS → IsFitCurrent s (with_statement current x)
 with_one s current x f k lt = record {
   script = f.script;
   no_items = f.no_items;
@@ -180,15 +181,15 @@ fit_after : (p : Place) (l : List ℕ) (e : Entry) → Stands p l e → is_withi
 unfolding is_within after
 fit_after _ _ _ (attempts l n s) w f = limit_read n
 fit_after _ _ _ (table a l names s c) w f = begun_fit a names f (some_columns l names s) c
-fit_after _ _ _ (first_session s l name h k) w f = record { script = f.script; no_items = f.no_items; session = new_session (column_count s.header) name; room = omega (arith, lt_from (length s.sessions) 64 w) }
+fit_after _ _ _ (first_session s l name h k) w f = record { script = f.script; no_items = f.no_items; session = new_session (column_count s.header) name; room = omega (arith, lt_from (length s.sessions) MAX_SESSIONS w) }
 fit_after _ _ _ (schedule_at_once s l h) w f = f.script
-fit_after _ _ _ (next_session s current l name h k) w f = record { script = closed_fit s current f; no_items = f.no_items; session = new_session (column_count s.header) name; room = omega (arith, lt_from (length s.sessions + 1) 64 w, length-append s.sessions (current ∷ [])) }
+fit_after _ _ _ (next_session s current l name h k) w f = record { script = closed_fit s current f; no_items = f.no_items; session = new_session (column_count s.header) name; room = omega (arith, lt_from (length s.sessions + 1) MAX_SESSIONS w, length-append s.sessions (current ∷ [])) }
 fit_after _ _ _ (insert s current l rows h k) w f =
-    let t = and_true (nat_le (length rows) 65536) (nat_lt (length current.statements) 4096) w in
-    with_one s current (statement.Insert rows) f (record { count = le_from (length rows) 65536 t.0; lengths = rows_as_long (column_count s.header) rows k; longs = inserted_long l rows h }) (lt_from (length current.statements) 4096 t.1)
+    let t = and_true (nat_le (length rows) MAX_STATEMENT_ROWS) (nat_lt (length current.statements) MAX_STATEMENTS) w in
+    with_one s current (statement.Insert rows) f (record { count = le_from (length rows) MAX_STATEMENT_ROWS t.0; lengths = rows_as_long (column_count s.header) rows k; longs = inserted_long l rows h }) (lt_from (length current.statements) MAX_STATEMENTS t.1)
 fit_after _ _ _ (select s current l h) w f =
-    let t = and_true (nat_le 0 65536) (nat_lt (length current.statements) 4096) w in
-    with_one s current statement.Select f tt (lt_from (length current.statements) 4096 t.1)
+    let t = and_true (nat_le 0 MAX_STATEMENT_ROWS) (nat_lt (length current.statements) MAX_STATEMENTS) w in
+    with_one s current statement.Select f tt (lt_from (length current.statements) MAX_STATEMENTS t.1)
 fit_after _ _ _ (schedule s current l h) w f = closed_fit s current f
 fit_after _ _ _ (items s l xs h) w f = record {
   least = f.least;
@@ -196,7 +197,7 @@ fit_after _ _ _ (items s l xs h) w f = record {
   header = f.header;
   sessions = f.sessions;
   each = f.each;
-  count = omega (arith, le_from (length s.items + length (map (placed s.sessions) xs)) 1048576 w, length-append s.items (flat_map known_item (map (placed s.sessions) xs)), known_fewer (map (placed s.sessions) xs));
+  count = omega (arith, le_from (length s.items + length (map (placed s.sessions) xs)) MAX_SCHEDULE_ITEMS w, length-append s.items (flat_map known_item (map (placed s.sessions) xs)), known_fewer (map (placed s.sessions) xs));
   items = All-append (OfSession (length s.sessions)) s.items (flat_map known_item (map (placed s.sessions) xs)) f.items (known_within s.sessions xs);
 }
 

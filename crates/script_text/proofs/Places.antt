@@ -3,6 +3,7 @@ use Rattle.std.proofs.Common.{◌≡◌, ℕ, ◌+◌, ◌<◌, ◌≤◌, true,
 use Rattle.std.specs.Prelude.{nat_lt}
 use Rattle.std.proofs.lemmas.Bool.Decides.{nat_tests}
 use Rattle.op_types.specs.declared.statement.Statement.TheVariants as statement
+use Rattle.row_base.specs.declared.limits.TheConstants.{MAX_SESSIONS}
 use Rattle.row_base.specs.Readings.{◌>>=◌}
 use Rattle.script_tokens.proofs.Runs.{some_is, bind_some, guarded}
 use Rattle.script_text.specs.declared.script.Script.{Script}
@@ -83,7 +84,7 @@ entry_again _ _ _ (select c current l s) = rw (reading_again l line.Select s) re
 entry_again _ _ _ (schedule c current l s) = rw (reading_again l line.Schedule s) refl
 entry_again _ _ _ (items c l xs s) = rw (items_again xs l s) refl
 
--- ---- at most 64 sessions
+-- ---- at most MAX_SESSIONS sessions
 
 lt_from : (m n : ℕ) → nat_lt m n ≡ true → m < n
 lt_from m n h = grind (arith, nat_tests)
@@ -91,7 +92,7 @@ lt_from m n h = grind (arith, nat_tests)
 one_more : {A : Type 0} (xs : List A) (x : A) → length (xs ++ x ∷ []) ≡ length xs + 1
 one_more xs x = length-append xs (x ∷ [])
 
-pub room : (p : Place) (e : Entry) → session_count p ≤ 64 → is_within p e ≡ true → session_count (after p e) ≤ 64
+pub room : (p : Place) (e : Entry) → session_count p ≤ MAX_SESSIONS → is_within p e ≡ true → session_count (after p e) ≤ MAX_SESSIONS
 unfolding is_within after
 room (Start a) (entry.Attempts n) h w = omega arith
 room (Start a) (entry.Header x) h w = omega arith
@@ -101,13 +102,13 @@ room (Start a) entry.Schedule h w = omega arith
 room (Start a) (entry.Items xs) h w = omega arith
 room (Headed c) (entry.Attempts n) h w = h
 room (Headed c) (entry.Header x) h w = h
-room (Headed c) (entry.Session name) h w = omega (arith, lt_from (length c.sessions) 64 w)
+room (Headed c) (entry.Session name) h w = omega (arith, lt_from (length c.sessions) MAX_SESSIONS w)
 room (Headed c) (entry.Statement x) h w = h
 room (Headed c) entry.Schedule h w = h
 room (Headed c) (entry.Items xs) h w = h
 room (Session c current) (entry.Attempts n) h w = h
 room (Session c current) (entry.Header x) h w = h
-room (Session c current) (entry.Session name) h w = omega (arith, lt_from (length c.sessions + 1) 64 w, one_more c.sessions current)
+room (Session c current) (entry.Session name) h w = omega (arith, lt_from (length c.sessions + 1) MAX_SESSIONS w, one_more c.sessions current)
 room (Session c current) (entry.Statement x) h w = h
 room (Session c current) entry.Schedule h w = omega (arith, h, one_more c.sessions current)
 room (Session c current) (entry.Items xs) h w = h

@@ -1,6 +1,7 @@
 -- What holds of every script that some bytes spell.
 use Rattle.std.specs.Prelude.{◌≡◌, ℕ, ◌<◌, ◌≤◌, true, List, length, All, FitsSigned}
 use Rattle.std.specs.Int.{w64}
+use Rattle.row_base.specs.declared.limits.TheConstants.{MAX_ATTEMPTS, MAX_STATEMENT_ROWS, MAX_STATEMENTS, MAX_SCHEDULE_ITEMS, MAX_SESSIONS}
 use Rattle.row_base.specs.declared.row.Datum.{Datum as ADatum}
 use Rattle.row_base.specs.declared.row.Datum.TheVariants as datum
 use Rattle.op_types.specs.declared.statement.Statement.{Statement as AStatement}
@@ -19,9 +20,9 @@ IsLong (datum.Boolean b) = ⊥
 IsLong (datum.Text t) = ⊥
 IsLong (datum.Date d) = ⊥
 
--- at most 65,536 rows, each a long number for each of so many columns
+-- at most MAX_STATEMENT_ROWS rows, each a long number for each of so many columns
 pub record AreFitRows (columns : ℕ) (rows : List (List ADatum)) : Type 0 where
-  pub count : length rows ≤ 65536
+  pub count : length rows ≤ MAX_STATEMENT_ROWS
   pub lengths : All (λ r. length r ≡ columns) rows
   pub longs : All (All IsLong) rows
 
@@ -31,24 +32,24 @@ IsFitStatement columns (statement.Insert rows) = AreFitRows columns rows
 IsFitStatement columns statement.Select = Unit {0}
 IsFitStatement columns (statement.Table spec) = ⊥
 
--- at most 4,096 statements over such a table
+-- at most MAX_STATEMENTS statements over such a table
 pub record IsFitSession (columns : ℕ) (session : SessionScript) : Type 0 where
-  pub count : length session.statements ≤ 4096
+  pub count : length session.statements ≤ MAX_STATEMENTS
   pub each : All (IsFitStatement columns) session.statements
 
--- the table has 1 to 64 columns of different names, all long and not null
+-- the table has 1 to MAX_COLUMNS columns of different names, all long and not null
 pub record IsFitHeader (h : AHeader) : Type 0 where
   pub names : List (List ℕ)
   pub table : h ≡ table_of names
   pub some : 1 ≤ length names
   pub distinct : are_columns names ≡ true
 
--- 1 to 1,000,000 puts, at most 64 sessions, and at most 1,048,576 items, each of one of the sessions
+-- 1 to MAX_ATTEMPTS puts, at most MAX_SESSIONS sessions, and at most MAX_SCHEDULE_ITEMS items, each of one of the sessions
 pub record IsFit (s : Script) : Type 0 where
   pub least : 1 ≤ s.attempts
-  pub most : s.attempts ≤ 1000000
+  pub most : s.attempts ≤ MAX_ATTEMPTS
   pub header : IsFitHeader s.header
-  pub sessions : length s.sessions ≤ 64
+  pub sessions : length s.sessions ≤ MAX_SESSIONS
   pub each : All (IsFitSession (column_count s.header)) s.sessions
-  pub count : length s.items ≤ 1048576
+  pub count : length s.items ≤ MAX_SCHEDULE_ITEMS
   pub items : All (λ i. (0 < i.actor) × (i.actor ≤ length s.sessions)) s.items

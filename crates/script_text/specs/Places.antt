@@ -7,6 +7,7 @@ use Rattle.actor_core.specs.declared.schedule.Item.{Item}
 use Rattle.actor_core.specs.declared.schedule.ItemForm.{ItemForm}
 use Rattle.op_types.specs.declared.statement.Statement.{Statement as AStatement}
 use Rattle.op_types.specs.declared.statement.Statement.TheVariants as statement
+use Rattle.row_base.specs.declared.limits.TheConstants.{MAX_ATTEMPTS, MAX_STATEMENT_ROWS, MAX_STATEMENTS, MAX_SCHEDULE_ITEMS, MAX_COLUMNS, MAX_SESSIONS}
 use Rattle.row_base.specs.declared.row.Kind.TheVariants as kind
 use Rattle.row_base.specs.declared.schema.Column.{Column}
 use Rattle.row_base.specs.declared.row.Datum.{Datum}
@@ -25,18 +26,18 @@ use Rattle.script_text.specs.declared.place.Entry.TheVariants as entry
 use Rattle.script_text.specs.Lines.{Says, reading}
 use Rattle.script_text.specs.Items.{NamedItem, SpellsItems, items_of}
 
--- 1 to 1,000,000
+-- 1 to MAX_ATTEMPTS
 abbrev pub attempts_of : ℤ → Option ℕ
-attempts_of (pos n) = if nat_le 1 n && nat_le n 1000000 then Some n else None
+attempts_of (pos n) = if nat_le 1 n && nat_le n MAX_ATTEMPTS then Some n else None
 attempts_of (negsuc n) = None
 
 abbrev pub are_distinct : List (List ℕ) → Bool
 are_distinct [] = true
 are_distinct (n ∷ ns) = not (list_any (λ m. bytes_eq m n) ns) && are_distinct ns
 
--- at most 64 columns of different names
+-- at most MAX_COLUMNS columns of different names
 abbrev pub are_columns : List (List ℕ) → Bool
-are_columns names = nat_le (length names) 64 && are_distinct names
+are_columns names = nat_le (length names) MAX_COLUMNS && are_distinct names
 
 abbrev pub long_column : List ℕ → Column
 long_column name = record { name = name; kind = kind.Long; nullable = false }
@@ -151,11 +152,11 @@ is_known p (entry.Statement x) = true
 is_known p entry.Schedule = true
 is_known p (entry.Items xs) = list_all is_placed xs
 
--- one of at most 64 sessions
+-- one of at most MAX_SESSIONS sessions
 abbrev pub session_fits : Place → Bool
 session_fits (Start a) = true
-session_fits (Headed s) = nat_lt (length s.sessions) 64
-session_fits (Session s current) = nat_lt (length s.sessions + 1) 64
+session_fits (Headed s) = nat_lt (length s.sessions) MAX_SESSIONS
+session_fits (Session s current) = nat_lt (length s.sessions + 1) MAX_SESSIONS
 session_fits (Items s) = true
 
 abbrev pub row_count : AStatement → ℕ
@@ -163,19 +164,19 @@ row_count (statement.Insert rows) = length rows
 row_count (statement.Table spec) = 0
 row_count statement.Select = 0
 
--- one of at most 4,096 statements, with at most 65,536 rows
+-- one of at most MAX_STATEMENTS statements, with at most MAX_STATEMENT_ROWS rows
 abbrev pub statement_fits : Place → AStatement → Bool
 statement_fits (Start a) x = true
 statement_fits (Headed s) x = true
-statement_fits (Session s current) x = nat_le (row_count x) 65536 && nat_lt (length current.statements) 4096
+statement_fits (Session s current) x = nat_le (row_count x) MAX_STATEMENT_ROWS && nat_lt (length current.statements) MAX_STATEMENTS
 statement_fits (Items s) x = true
 
--- at most 1,048,576 items with these
+-- at most MAX_SCHEDULE_ITEMS items with these
 abbrev pub items_fit : Place → ℕ → Bool
 items_fit (Start a) n = true
 items_fit (Headed s) n = true
 items_fit (Session s current) n = true
-items_fit (Items s) n = nat_le (length s.items + n) 1048576
+items_fit (Items s) n = nat_le (length s.items + n) MAX_SCHEDULE_ITEMS
 
 -- No limit is passed.
 unfoldable pub is_within : Place → Entry → Bool

@@ -1,5 +1,6 @@
 //! What a line is at its place, and the place behind it.
 ghost use Rattle.std.specs.Prelude.{◌≡◌, ◌≤◌, ◌++◌, length, map, IfOk, IfErr, OnOk};
+ghost use Rattle.row_base.specs.declared.limits.TheConstants.{MAX_SESSIONS};
 ghost use Rattle.script_tokens.specs.Gives.{Gives};
 ghost use Rattle.script_text.specs.Places.{attempts_of, are_distinct, are_columns, long_column, table_of, begins_lower, are_lower, is_session_name, column_count, fit_table, start_entry, session_start, headed_entry, session_entry, entry_at, is_declared, is_new, is_placed, is_known, session_fits, row_count, statement_fits, items_fit, is_within, begun, named, with_session, with_statement, known_item, with_items, after_start, after_header, after_session, after_schedule, after};
 ghost use Rattle.script_text.specs.Scripts.{session_count};
@@ -186,7 +187,7 @@ fn session_entry(script: &Script, line: Line) -> Result<Entry, ParseError>
 /// What the line is at the place. The error `Form` comes where it may not stand there.
 #[tactic(auto, unfolding(crate::specs::Places::entry_at))]
 pub fn entry(alloc: Global, place: &Place, line: &[u8]) -> Result<Entry, ParseError>
-    requires { session_count place.now ≤ 64 }
+    requires { session_count place.now ≤ MAX_SESSIONS }
     ensures { Gives (λ e. e) result (entry_at place.now line.now) }
 {
     match place {

@@ -2,6 +2,7 @@
 ghost use Rattle.std.specs.Prelude.{◌≡◌, ◌<◌, ◌≤◌, option_map, length, IfSome, IfNone, None};
 ghost use Rattle.std.specs.List.{position};
 ghost use Rattle.std.specs.Str.{bytes_eq};
+ghost use Rattle.row_base.specs.declared.limits.TheConstants.{MAX_SESSIONS};
 ghost use Rattle.script_tokens.specs.Gives.{Gives};
 ghost use Rattle.script_text.specs.Items.{ends_item, form_at, item_at};
 ghost use Rattle.script_text.specs.Places.{place_named, placed_from, put_placed};
@@ -73,7 +74,7 @@ fn find_named(sessions: &[SessionScript], name: &[u8]) -> Option<usize>
 
 /// The place of the session of this name, counted from 1.
 fn place_named(sessions: &[SessionScript], name: &[u8]) -> Option<u16>
-    requires { length sessions.now ≤ 64 }
+    requires { length sessions.now ≤ MAX_SESSIONS }
     ensures { result ≡ place_named sessions.now name.now }
 {
     match find_named(sessions, name) {
@@ -84,7 +85,7 @@ fn place_named(sessions: &[SessionScript], name: &[u8]) -> Option<u16>
 
 /// One step: a space, or an item.
 fn next<'a>(sessions: &[SessionScript], bytes: &'a [u8]) -> Option<(Option<Placed>, &'a [u8])>
-    requires room { length sessions.now ≤ 64 }
+    requires room { length sessions.now ≤ MAX_SESSIONS }
     requires some { 0 < length bytes.now }
     ensures ok { IfSome result (λ x. placed_from sessions.now bytes.now ≡ put_placed x.0 (placed_from sessions.now x.1.now)) }
     ensures less { IfSome result (λ x. length x.1.now < length bytes.now) }
@@ -109,7 +110,7 @@ pub fn placed_items(
     sessions: &[SessionScript],
     line: &[u8],
 ) -> Result<Items<Placed>, ParseError>
-    requires { length sessions.now ≤ 64 }
+    requires { length sessions.now ≤ MAX_SESSIONS }
     ensures { Gives (λ x. x) result (placed_from sessions.now line.now) }
 {
     let mut all = Vec::new(alloc);

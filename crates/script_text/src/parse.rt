@@ -2,6 +2,7 @@
 ghost use Rattle.std.specs.Prelude.{◌≡◌, ◌<◌, ◌≤◌, ◌^◌, ◌+◌, ◌∷◌, ◌⊎◌, List, ℕ, length, drop, IfOk, IfErr, MatchResult, Ok, None};
 ghost use Rattle.std.specs.List.{prefix_len};
 ghost use Rattle.std.specs.Str.{is_utf8};
+ghost use Rattle.row_base.specs.declared.limits.TheConstants.{MAX_SCRIPT_BYTES, MAX_SESSIONS};
 ghost use Rattle.script_text.specs.Scripts.{pieces, is_passed, is_inside, judge, judged, lacking, finished, script_from, session_count, FaultIs, GivesScript, SpellsScript, FailsScript, Judges};
 ghost use Rattle.script_text.specs.Fit.{IsFit};
 ghost use Rattle.script_text.specs.declared.place.Place.TheVariants as places;
@@ -75,9 +76,9 @@ fn lacking(place: &Place) -> ScriptFaultKind
 
 /// The place behind the entry, or the kind of its fault.
 fn judge_entry(alloc: Global, place: Place, entry: Entry) -> Result<Place, ScriptFaultKind>
-    requires { session_count place ≤ 64 }
+    requires { session_count place ≤ MAX_SESSIONS }
     ensures gives { Judges result (judged place entry) }
-    ensures room { IfOk result (λ p. session_count p ≤ 64) }
+    ensures room { IfOk result (λ p. session_count p ≤ MAX_SESSIONS) }
 {
     if !is_known(&place, &entry) {
         return Err(ScriptFaultKind::Session);
@@ -94,9 +95,9 @@ fn judge_entry(alloc: Global, place: Place, entry: Entry) -> Result<Place, Scrip
 /// The place behind the line, or the kind of its fault.
 #[tactic(auto, unfolding(crate::specs::Scripts::judge))]
 fn judge_line(alloc: Global, place: Place, line: &[u8]) -> Result<Place, ScriptFaultKind>
-    requires { session_count place ≤ 64 }
+    requires { session_count place ≤ MAX_SESSIONS }
     ensures gives { Judges result (judge place line.now) }
-    ensures room { IfOk result (λ p. session_count p ≤ 64) }
+    ensures room { IfOk result (λ p. session_count p ≤ MAX_SESSIONS) }
 {
     if !is_utf8(line) {
         return Err(ScriptFaultKind::Utf8);
@@ -134,9 +135,9 @@ fn finish(number: u32, place: Place) -> Result<Script, ScriptFault>
 
 /// Reads the line of this number.
 fn step(alloc: Global, place: Place, number: u32, line: &[u8]) -> Result<Place, ScriptFault>
-    requires { session_count place ≤ 64 }
+    requires { session_count place ≤ MAX_SESSIONS }
     ensures ok { IfOk result (λ q. (ls : List (List ℕ)) → script_from number place (line.now ∷ ls) ≡ script_from (number + 1) q ls) }
-    ensures room { IfOk result (λ q. session_count q ≤ 64) }
+    ensures room { IfOk result (λ q. session_count q ≤ MAX_SESSIONS) }
     ensures err { IfErr result (λ f. (ls : List (List ℕ)) → FaultIs f f.kind (script_from number place (line.now ∷ ls))) }
 {
     match judge_line(alloc, place, line) {
@@ -146,7 +147,7 @@ fn step(alloc: Global, place: Place, number: u32, line: &[u8]) -> Result<Place, 
 }
 
 fn read_script(alloc: Global, bytes: &[u8]) -> Result<Script, ScriptFault>
-    requires { length bytes.now ≤ 16777216 }
+    requires { length bytes.now ≤ MAX_SCRIPT_BYTES }
     ensures { GivesScript result (script_from 1 (places.Start None) (pieces bytes.now)) }
 {
     let mut place = Place::Start(None);
@@ -161,10 +162,10 @@ fn read_script(alloc: Global, bytes: &[u8]) -> Result<Script, ScriptFault>
     finish(number, place)
 }
 
-/// Reads a script of at most 16,777,216 bytes. The error names the least bad line and the first kind of fault that it
+/// Reads a script of at most `MAX_SCRIPT_BYTES`. The error names the least bad line and the first kind of fault that it
 /// has in the order `Utf8`, `Header`, `Form`, `Session`, `Limit`, or the line at which memory ran out.
 pub fn parse_script(alloc: Global, bytes: &[u8]) -> Result<Script, ScriptFault>
-    requires { length bytes.now ≤ 16777216 }
+    requires { length bytes.now ≤ MAX_SCRIPT_BYTES }
     // What is read is what the bytes spell.
     ensures found { IfOk result (SpellsScript bytes.now) }
     // It keeps all limits.

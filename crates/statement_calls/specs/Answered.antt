@@ -13,6 +13,7 @@ use Rattle.log_actions.specs.declared.fault.Feature.TheVariants.{Versions}
 use Rattle.op_types.specs.declared.reply.Reply.{Reply}
 use Rattle.op_types.specs.declared.reply.Reply.TheVariants.{Created, Committed, Rows}
 use Rattle.op_types.specs.declared.reply.CheckpointOutcome.TheVariants.{NotDue}
+use Rattle.table_rules.specs.declared.rules.TheConstants.{DEFAULT_RETENTION}
 use Rattle.table_rules.specs.Names.{log_prefix, commit_text, data_text}
 use Rattle.line_texts.specs.Texts.{text_of_columns, text_of_add, text_of_rows}
 use Rattle.snapshot_replay.specs.Table.{Snapshot, no_table, paths_of}
@@ -35,7 +36,7 @@ use Rattle.statement_calls.specs.Outcome.{IsOpen, Ends, Replies, refusal_of_load
 
 -- the retention of a table, in milliseconds: one week. A commit may take half of it
 abbrev pub retention : ℕ
-retention = 604800000
+retention = DEFAULT_RETENTION
 
 -- the rows of files, one file after another
 abbrev pub rows_of_files : List ScannedFile → List (List Datum)

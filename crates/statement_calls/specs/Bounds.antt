@@ -1,9 +1,10 @@
 -- How many calls a statement makes at most, phase by phase. No bound depends on the statement or on what was loaded.
 use Rattle.std.specs.Prelude.{ℕ, ◌+◌, ◌*◌, ◌^◌}
+use Rattle.row_base.specs.declared.limits.TheConstants.{MAX_ATTEMPTS, VERSION_LIMIT}
 
 -- the first version that isn't supported, so the most commits that are got
 abbrev pub version_limit : ℕ
-version_limit = 2 ^ 20
+version_limit = VERSION_LIMIT
 
 -- files that are got: as many as a list has
 abbrev pub most_files : ℕ
@@ -15,7 +16,7 @@ most_puts = 2 ^ 64
 
 -- three calls for each attempt, as many as a script allows
 abbrev pub most_attempts : ℕ
-most_attempts = 3 * 1000000
+most_attempts = 3 * MAX_ATTEMPTS
 
 -- after the load, whatever the statement is
 abbrev pub most_after_load : ℕ

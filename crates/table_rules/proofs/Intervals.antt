@@ -10,6 +10,7 @@ use Rattle.std.proofs.lemmas.List.{take_at, drop_at, drop_all}
 use Rattle.std.proofs.lemmas.List.Sums.{split_at_first, passes_at_first}
 use Rattle.std.proofs.lemmas.Slice.Eq.{bytes_eq-Decides}
 use Rattle.std.proofs.lemmas.Fmt.{digits_decimal}
+use Rattle.row_base.specs.declared.limits.TheConstants.{MAX_WAIT}
 use Rattle.row_base.specs.Numbers.{decimal_in}
 use Rattle.row_base.proofs.Numerals.{by_test, decimal_is, decimal_written}
 use Rattle.table_rules.specs.Intervals.{unit_in, scaled, amount_in, interval_in, IsInterval}
@@ -74,7 +75,7 @@ record IsAmount (text : List ℕ) (milliseconds : ℕ) : Type 0 where
   is_unit : unit_in unit ≡ Some scale
   is_text : text ≡ decimal number ++ (32 ∷ unit)
   is_long : milliseconds ≡ number * scale
-  is_bounded : milliseconds ≤ 2 ^ 40
+  is_bounded : milliseconds ≤ MAX_WAIT
 
 amount_from : (text : List ℕ) (m : ℕ) (number unit : Option ℕ) → position_or_len is_space text < length text
     → decimal_in (before_first is_space text) ≡ number → unit_in (after_first is_space text) ≡ unit
@@ -82,8 +83,8 @@ amount_from : (text : List ℕ) (m : ℕ) (number unit : Option ℕ) → positio
 amount_from text m None unit lt e f h = cc
 amount_from text m (Some n) None lt e f h = cc
 amount_from text m (Some n) (Some u) lt e f h =
-    let q = some_then (nat_le (n * u) (2 ^ 40)) (n * u) m h in
-    let bound : n * u ≤ 2 ^ 40 = leb-true (n * u) (2 ^ 40) q.0 in
+    let q = some_then (nat_le (n * u) MAX_WAIT) (n * u) m h in
+    let bound : n * u ≤ MAX_WAIT = leb-true (n * u) MAX_WAIT q.0 in
     let long : m ≡ n * u = sym q.1 in
     record {
       number = n;
@@ -134,8 +135,8 @@ pub interval_said : (text : List ℕ) (m : ℕ) → interval_in text ≡ Some m 
 interval_said text m h =
     interval_from text m (bytes_eq (before_first is_space text) (codes "interval")) refl (sym (interval_by text (bytes_eq (before_first is_space text) (codes "interval")) refl) ∙ h)
 
-scaled_in : (n u : ℕ) → n * u ≤ 2 ^ 40 → scaled n u ≡ Some (n * u)
-scaled_in n u le = rw (le-leb (n * u) (2 ^ 40) le) refl
+scaled_in : (n u : ℕ) → n * u ≤ MAX_WAIT → scaled n u ≡ Some (n * u)
+scaled_in n u le = rw (le-leb (n * u) MAX_WAIT le) refl
 
 positive_by : (a b c d e f : Bool) (s : ℕ)
     → (if a then Some 1 else (if b then Some 1000 else (if c then Some 60000 else (if d then Some 3600000 else (if e then Some 86400000 else (if f then Some 604800000 else None)))))) ≡ Some s
@@ -156,7 +157,7 @@ le_times : (n s : ℕ) → 0 < s → n ≤ n * s
 le_times n zero h = omega arith
 le_times n (suc k) h = omega arith
 
-amount_read : (n u : ℕ) (unit : List ℕ) → unit_in unit ≡ Some u → n * u ≤ 2 ^ 40 → amount_in (decimal n ++ (32 ∷ unit)) ≡ Some (n * u)
+amount_read : (n u : ℕ) (unit : List ℕ) → unit_in unit ≡ Some u → n * u ≤ MAX_WAIT → amount_in (decimal n ++ (32 ∷ unit)) ≡ Some (n * u)
 amount_read n u unit is bound =
     let small : n < 2 ^ 64 = omega (arith, le_times n u (unit_positive unit u is), bound) in
     let at = place (decimal n) unit (digits_decimal by_test n small) in
@@ -174,7 +175,7 @@ word_read amount =
 -- what is named is read
 pub interval_read : (text : List ℕ) (m : ℕ) → IsInterval text m → interval_in text ≡ Some m
 interval_read text m h =
-    let bound : h.number * h.scale ≤ 2 ^ 40 = omega (arith, h.is_long, h.is_bounded) in
+    let bound : h.number * h.scale ≤ MAX_WAIT = omega (arith, h.is_long, h.is_bounded) in
     ap interval_in h.is_text ∙ word_read (decimal h.number ++ (32 ∷ h.unit)) ∙ amount_read h.number h.scale h.unit h.is_unit bound ∙ ap Some (sym h.is_long)
 
 pub interval_found : (o : Option ℕ) (text : List ℕ) → o ≡ interval_in text → IfSome o (IsInterval text)

@@ -12,6 +12,7 @@ use Rattle.std.proofs.lemmas.Slice.Eq.{bytes_eq-Decides}
 use Rattle.json_lines.specs.Kinds.{TextEntry}
 use Rattle.log_actions.specs.declared.fault.Feature.{Feature}
 use Rattle.log_actions.specs.declared.fault.Feature.TheVariants as feature
+use Rattle.table_rules.specs.declared.rules.TheConstants.{DEFAULT_RETENTION, DEFAULT_LOG_RETENTION}
 use Rattle.table_rules.specs.declared.fault.FeatureFault.{FeatureFault}
 use Rattle.table_rules.specs.declared.fault.FeatureFault.TheVariants as faults
 use Rattle.table_rules.specs.declared.rules.Level.{Level}
@@ -145,7 +146,7 @@ decide entries (Ok a) (Err f) r l g ea ei er el eg =
     least_of entries (codes "delta.checkpointInterval") f q.0 q.1
     (λ b. absurd (not_bad append_only_in false a (entry_of (codes "delta.appendOnly") entries) ea b)) (λ _ e. cc) (λ _ e. cc) (λ _ e. cc) (λ _ e. cc)
 decide entries (Ok a) (Ok i) (Err f) l g ea ei er el eg =
-    let q = refused interval_in 604800000 (codes "delta.deletedFileRetentionDuration") f (entry_of (codes "delta.deletedFileRetentionDuration") entries) (found_key (codes "delta.deletedFileRetentionDuration") entries) er in
+    let q = refused interval_in DEFAULT_RETENTION (codes "delta.deletedFileRetentionDuration") f (entry_of (codes "delta.deletedFileRetentionDuration") entries) (found_key (codes "delta.deletedFileRetentionDuration") entries) er in
     least_of entries (codes "delta.deletedFileRetentionDuration") f q.0 q.1
     (λ b. absurd (not_bad append_only_in false a (entry_of (codes "delta.appendOnly") entries) ea b))
     (λ b. absurd (not_bad checkpoint_interval_in 10 i (entry_of (codes "delta.checkpointInterval") entries) ei b)) (λ _ e. cc) (λ _ e. cc) (λ _ e. cc)
@@ -154,21 +155,21 @@ decide entries (Ok a) (Ok i) (Ok r) (Err f) g ea ei er el eg =
     least_of entries (codes "delta.isolationLevel") f q.0 q.1
     (λ b. absurd (not_bad append_only_in false a (entry_of (codes "delta.appendOnly") entries) ea b))
     (λ b. absurd (not_bad checkpoint_interval_in 10 i (entry_of (codes "delta.checkpointInterval") entries) ei b))
-    (λ b. absurd (not_bad interval_in 604800000 r (entry_of (codes "delta.deletedFileRetentionDuration") entries) er b)) (λ _ e. cc) (λ _ e. cc)
+    (λ b. absurd (not_bad interval_in DEFAULT_RETENTION r (entry_of (codes "delta.deletedFileRetentionDuration") entries) er b)) (λ _ e. cc) (λ _ e. cc)
 decide entries (Ok a) (Ok i) (Ok r) (Ok l) (Err f) ea ei er el eg =
-    let q = refused interval_in 2592000000 (codes "delta.logRetentionDuration") f (entry_of (codes "delta.logRetentionDuration") entries) (found_key (codes "delta.logRetentionDuration") entries) eg in
+    let q = refused interval_in DEFAULT_LOG_RETENTION (codes "delta.logRetentionDuration") f (entry_of (codes "delta.logRetentionDuration") entries) (found_key (codes "delta.logRetentionDuration") entries) eg in
     least_of entries (codes "delta.logRetentionDuration") f q.0 q.1
     (λ b. absurd (not_bad append_only_in false a (entry_of (codes "delta.appendOnly") entries) ea b))
     (λ b. absurd (not_bad checkpoint_interval_in 10 i (entry_of (codes "delta.checkpointInterval") entries) ei b))
-    (λ b. absurd (not_bad interval_in 604800000 r (entry_of (codes "delta.deletedFileRetentionDuration") entries) er b))
+    (λ b. absurd (not_bad interval_in DEFAULT_RETENTION r (entry_of (codes "delta.deletedFileRetentionDuration") entries) er b))
     (λ b. absurd (not_bad level_in WriteSerializable l (entry_of (codes "delta.isolationLevel") entries) el b)) (λ _ e. cc)
 decide entries (Ok a) (Ok i) (Ok r) (Ok l) (Ok g) ea ei er el eg =
     bad_cases entries (λ _. ⊥)
     (λ b. not_bad append_only_in false a (entry_of (codes "delta.appendOnly") entries) ea b)
     (λ b. not_bad checkpoint_interval_in 10 i (entry_of (codes "delta.checkpointInterval") entries) ei b)
-    (λ b. not_bad interval_in 604800000 r (entry_of (codes "delta.deletedFileRetentionDuration") entries) er b)
+    (λ b. not_bad interval_in DEFAULT_RETENTION r (entry_of (codes "delta.deletedFileRetentionDuration") entries) er b)
     (λ b. not_bad level_in WriteSerializable l (entry_of (codes "delta.isolationLevel") entries) el b)
-    (λ b. not_bad interval_in 2592000000 g (entry_of (codes "delta.logRetentionDuration") entries) eg b)
+    (λ b. not_bad interval_in DEFAULT_LOG_RETENTION g (entry_of (codes "delta.logRetentionDuration") entries) eg b)
 
 says : (entries : List TextEntry) → Says entries (rules_in entries)
 says entries = decide entries (append_only_of entries) (checkpoint_interval_of entries) (retention_of entries) (level_of entries) (log_retention_of entries) refl refl refl refl refl

@@ -1,8 +1,9 @@
 -- Intervals of time, as the properties of a table name them.
-use Rattle.std.specs.Prelude.{◌≡◌, ◌≤◌, ℕ, ◌*◌, ◌^◌, ◌==◌, ◌||◌, if◌then◌else◌, nat_le, List, ◌∷◌, ◌++◌, Option, Some, None, codes, option_and_then}
+use Rattle.std.specs.Prelude.{◌≡◌, ◌≤◌, ℕ, ◌*◌, ◌==◌, ◌||◌, if◌then◌else◌, nat_le, List, ◌∷◌, ◌++◌, Option, Some, None, codes, option_and_then}
 use Rattle.std.specs.List.{before_first, after_first}
 use Rattle.std.specs.Str.{bytes_eq}
 use Rattle.std.specs.Fmt.{decimal}
+use Rattle.row_base.specs.declared.limits.TheConstants.{MAX_WAIT}
 use Rattle.row_base.specs.Numbers.{decimal_in}
 
 -- the milliseconds of a unit
@@ -15,9 +16,9 @@ unit_in name =
     else (if bytes_eq name (codes "day") || bytes_eq name (codes "days") then Some 86400000
     else (if bytes_eq name (codes "week") || bytes_eq name (codes "weeks") then Some 604800000 else None)))))
 
--- so many units, at most 2^40 milliseconds
+-- so many units, at most MAX_WAIT
 abbrev pub scaled : ℕ → ℕ → Option ℕ
-scaled number unit = if nat_le (number * unit) (2 ^ 40) then Some (number * unit) else None
+scaled number unit = if nat_le (number * unit) MAX_WAIT then Some (number * unit) else None
 
 -- a number, a space and a unit
 unfoldable pub amount_in : List ℕ → Option ℕ
@@ -30,7 +31,7 @@ unfoldable pub interval_in : List ℕ → Option ℕ
 interval_in text =
     if bytes_eq (before_first (λ b. b == 32) text) (codes "interval") then amount_in (after_first (λ b. b == 32) text) else None
 
--- a text names an interval: the word, a number in decimal and a unit, with one space between them, of at most 2^40 milliseconds
+-- a text names an interval: the word, a number in decimal and a unit, with one space between them, of at most MAX_WAIT
 pub record IsInterval (text : List ℕ) (milliseconds : ℕ) : Type 0 where
   pub number : ℕ
   pub unit : List ℕ
@@ -38,4 +39,4 @@ pub record IsInterval (text : List ℕ) (milliseconds : ℕ) : Type 0 where
   pub is_unit : unit_in unit ≡ Some scale
   pub is_text : text ≡ codes "interval" ++ (32 ∷ (decimal number ++ (32 ∷ unit)))
   pub is_long : milliseconds ≡ number * scale
-  pub is_bounded : milliseconds ≤ 2 ^ 40
+  pub is_bounded : milliseconds ≤ MAX_WAIT

@@ -11,6 +11,7 @@ use Rattle.log_actions.specs.declared.fault.Feature.{Feature}
 use Rattle.log_actions.specs.declared.fault.Feature.TheVariants as feature
 use Rattle.row_base.specs.Numbers.{decimal_in}
 use Rattle.row_base.specs.Faults.{◌>>=◌}
+use Rattle.table_rules.specs.declared.rules.TheConstants.{MAX_CHECKPOINT_INTERVAL, DEFAULT_RETENTION, DEFAULT_LOG_RETENTION}
 use Rattle.table_rules.specs.Intervals.{interval_in}
 use Rattle.table_rules.specs.declared.fault.FeatureFault.{FeatureFault}
 use Rattle.table_rules.specs.declared.fault.FeatureFault.TheVariants as faults
@@ -22,11 +23,11 @@ use Rattle.table_rules.specs.declared.rules.Rules.{Rules}
 abbrev pub level_in : List ℕ → Option Level
 level_in text = if bytes_eq text (codes "Serializable") then Some Serializable else (if bytes_eq text (codes "WriteSerializable") then Some WriteSerializable else None)
 
--- a number of commits from 1 to 1,000,000
+-- a number of commits from 1 to MAX_CHECKPOINT_INTERVAL
 abbrev pub if_checkpoint_interval : ℕ → Option ℕ
-if_checkpoint_interval number = if nat_lt 0 number && nat_le number 1000000 then Some number else None
+if_checkpoint_interval number = if nat_lt 0 number && nat_le number MAX_CHECKPOINT_INTERVAL then Some number else None
 
--- from 1 to 1,000,000 commits
+-- from 1 to MAX_CHECKPOINT_INTERVAL commits
 abbrev pub checkpoint_interval_in : List ℕ → Option ℕ
 checkpoint_interval_in text = option_and_then if_checkpoint_interval (decimal_in text)
 
@@ -60,13 +61,13 @@ checkpoint_interval_of configuration = value_of checkpoint_interval_in 10 (entry
 abbrev pub append_only_of : List TextEntry → Result Bool Feature
 append_only_of configuration = value_of append_only_in false (entry_of (codes "delta.appendOnly") configuration)
 
--- a week
+-- `delta.deletedFileRetentionDuration`
 abbrev pub retention_of : List TextEntry → Result ℕ Feature
-retention_of configuration = value_of interval_in 604800000 (entry_of (codes "delta.deletedFileRetentionDuration") configuration)
+retention_of configuration = value_of interval_in DEFAULT_RETENTION (entry_of (codes "delta.deletedFileRetentionDuration") configuration)
 
--- thirty days
+-- `delta.logRetentionDuration`
 abbrev pub log_retention_of : List TextEntry → Result ℕ Feature
-log_retention_of configuration = value_of interval_in 2592000000 (entry_of (codes "delta.logRetentionDuration") configuration)
+log_retention_of configuration = value_of interval_in DEFAULT_LOG_RETENTION (entry_of (codes "delta.logRetentionDuration") configuration)
 
 -- the properties are looked at in byte order of their keys, and the first that is refused is named
 abbrev pub rules_in : List TextEntry → Result Rules Feature

@@ -63,7 +63,7 @@ fn interval_in(text: &str) -> Option<u64>
 
 /// The milliseconds of the interval that a text names: the word `interval`, a number in decimal without a sign and
 /// without a leading zero, and `millisecond`, `second`, `minute`, `hour`, `day` or `week` with an `s` or without, with
-/// one space between them, at most 2^40 milliseconds; `None` for any other text. Takes no memory.
+/// one space between them, at most `MAX_WAIT`; `None` for any other text. Takes no memory.
 pub fn read_interval(text: &Text) -> Option<u64>
     ensures value { result ≡ spec.interval_in text.now }
     ensures found { IfSome result (spec.IsInterval text.now) }

@@ -16,5 +16,5 @@ pub use fault::FeatureFault;
 pub use interval::read_interval;
 pub use log::{LOG_PREFIX, LogName, checkpoint_name, commit_name, log_prefix, read_log_name};
 pub use protocol::accepts;
-pub use rules::{Level, Rules, rules_of};
+pub use rules::{DEFAULT_RETENTION, Level, Rules, rules_of};
 pub use told::names_are_told_apart;

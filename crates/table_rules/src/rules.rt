@@ -10,11 +10,11 @@ use log_actions::{Feature, MetaData};
 use row_base::Text;
 use row_base::numbers::read_decimal;
 
-/// The milliseconds of a week.
-const WEEK: u64 = 604_800_000;
+/// `delta.deletedFileRetentionDuration` where it isn't set, in milliseconds: a week.
+pub const DEFAULT_RETENTION: u64 = 604_800_000;
 
-/// The milliseconds of thirty days.
-const THIRTY_DAYS: u64 = 2_592_000_000;
+/// `delta.logRetentionDuration` where it isn't set, in milliseconds: thirty days.
+const DEFAULT_LOG_RETENTION: u64 = 2_592_000_000;
 
 /// The greatest number of commits between two checkpoints.
 const MAX_CHECKPOINT_INTERVAL: u64 = 1_000_000;
@@ -31,9 +31,9 @@ pub enum Level {
 pub struct Rules {
     /// `delta.isolationLevel`, by default `WriteSerializable`.
     pub level: Level,
-    /// `delta.deletedFileRetentionDuration` in milliseconds, by default a week.
+    /// `delta.deletedFileRetentionDuration` in milliseconds, by default `DEFAULT_RETENTION`.
     pub retention: u64,
-    /// `delta.checkpointInterval` in commits, from 1 to 1,000,000, by default 10.
+    /// `delta.checkpointInterval` in commits, from 1 to `MAX_CHECKPOINT_INTERVAL`, by default 10.
     pub interval: u64,
     /// `delta.appendOnly` (PROTOCOL.md, "Append-only Tables"), by default false, and the only value so far.
     pub append_only: bool,
@@ -120,7 +120,7 @@ fn retention_of(configuration: &[Entry<Text>]) -> Result<u64, FeatureFault>
 {
     match entry_of(configuration, "delta.deletedFileRetentionDuration") {
         Some(entry) => or_refused(entry, read_interval(&entry.value)),
-        None => Ok(WEEK),
+        None => Ok(DEFAULT_RETENTION),
     }
 }
 
@@ -129,7 +129,7 @@ fn log_retention_of(configuration: &[Entry<Text>]) -> Result<u64, FeatureFault>
 {
     match entry_of(configuration, "delta.logRetentionDuration") {
         Some(entry) => or_refused(entry, read_interval(&entry.value)),
-        None => Ok(THIRTY_DAYS),
+        None => Ok(DEFAULT_LOG_RETENTION),
     }
 }
 
