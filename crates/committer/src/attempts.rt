@@ -1,5 +1,6 @@
 //! The attempts of a commit, one call of the store after another.
-ghost use Rattle.std.specs.Prelude.{◌≡◌, ◌+◌, ◌*◌, ◌<◌, ◌≤◌, ◌^◌, [], IsSomeAnd, IfSome, Option};
+ghost use Rattle.std.specs.Prelude.{◌≡◌, ◌+◌, ◌*◌, ◌<◌, ◌≤◌, [], IsSomeAnd, IfSome, Option};
+ghost use Rattle.row_base.specs.declared.limits.TheConstants.{MAX_ATTEMPTS, VERSION_LIMIT};
 ghost use Rattle.call_phases.specs.Phases.{Entries};
 ghost use Rattle.call_phases.specs.Ending.{Ending};
 ghost use Rattle.committer.specs.Attempts.{Terms, AttemptsEnd};
@@ -28,7 +29,7 @@ pub struct Attempts<J: Judge> {
 
 /// The version of the first attempt.
 fn first_after(read: Option<u64>) -> u64
-    requires { IfSome read (λ version. version < 2 ^ 20) }
+    requires { IfSome read (λ version. version < VERSION_LIMIT) }
     ensures { result ≡ first_after read }
 {
     match read {
@@ -50,8 +51,8 @@ impl<J: Judge> Attempts<J> {
         limit: u32,
     ) -> Attempts<J>
         requires some { 0 < limit }
-        requires most { limit ≤ 1000000 }
-        requires read { IfSome read (λ version. version < 2 ^ 20) }
+        requires most { limit ≤ MAX_ATTEMPTS }
+        requires read { IfSome read (λ version. version < VERSION_LIMIT) }
         ensures leads { (es : Entries) (o : Ending (ALost J J.Clash) (AWon J)) → RestOf J.bodies J.judges result es o
             → AttemptsEnd J.bodies J.judges (record { start = start; retention = retention; first = first_after read }) limit 0 [] judge es o }
         ensures ready { IsReady result }

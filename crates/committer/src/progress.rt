@@ -1,5 +1,6 @@
 //! How far the attempts of a commit have come.
-ghost use Rattle.std.specs.Prelude.{◌≡◌, ◌+◌, ◌-◌, ◌<◌, ◌≤◌, ◌^◌, IfOk};
+ghost use Rattle.std.specs.Prelude.{◌≡◌, ◌+◌, ◌-◌, ◌<◌, ◌≤◌, IfOk};
+ghost use Rattle.row_base.specs.declared.limits.TheConstants.{LAST_TIME, MAX_ATTEMPTS, VERSION_LIMIT};
 ghost use Rattle.table_rules.specs.Names.{commit_text};
 
 use crate::AttemptFault;
@@ -17,8 +18,8 @@ pub struct Progress {
     pub first: u64,
     pub lost: u32,
     pub left: u32,
-    pub ghost versions: { first ≤ 2 ^ 20 },
-    pub ghost limit: { lost + left < 1000000 },
+    pub ghost versions: { first ≤ VERSION_LIMIT },
+    pub ghost limit: { lost + left < MAX_ATTEMPTS },
 }
 
 impl Progress {
@@ -34,7 +35,7 @@ impl Progress {
 
     /// Whether twice the time since the start exceeds the retention.
     pub fn outlasts(&self, now: u64) -> bool
-        requires { now ≤ 2 ^ 61 }
+        requires { now ≤ LAST_TIME }
         ensures { result ≡ outlasts (terms_of self.now) now }
     {
         2 * now.saturating_sub(self.start) > self.retention

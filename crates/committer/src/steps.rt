@@ -1,5 +1,6 @@
 //! The steps of the attempts: what comes after each answer.
-ghost use Rattle.std.specs.Prelude.{◌≡◌, ◌+◌, ◌*◌, ◌<◌, ◌≤◌, ◌^◌, IsSomeAnd, IfSome, Option};
+ghost use Rattle.std.specs.Prelude.{◌≡◌, ◌+◌, ◌*◌, ◌<◌, ◌≤◌, IsSomeAnd, IfSome, Option};
+ghost use Rattle.row_base.specs.declared.limits.TheConstants.{LAST_TIME};
 ghost use Rattle.edge_api.specs.Journal.{IsOfKind};
 ghost use Rattle.call_phases.specs.Phases.{Entries};
 ghost use Rattle.call_phases.specs.Ending.{Ending};
@@ -68,7 +69,7 @@ impl<J: Judge> Attempts<J> {
 
     /// After a reading of the clock the commit is put, unless it comes too late.
     fn attempt_at(&mut self, now: u64) -> Ready<Stage<J::Clash>>
-        requires { now ≤ 2 ^ 61 }
+        requires { now ≤ LAST_TIME }
         ensures ready { result.call ≡ call_at result.stage }
         ensures falls { left_at self.new.progress result.stage < 3 * self.old.progress.left + 3 }
         ensures leads { (es : Entries) (o : Ending (Lost J J.Clash) (Won J)) → RestBy J.bodies J.judges self.new result.stage es o → InTimeBy J.bodies J.judges self.old now es o }
