@@ -19,6 +19,7 @@ use Rattle.call_phases.specs.Step.{FedBy}
 use Rattle.call_phases.specs.Gets.{AtGets, GetsAll}
 use Rattle.call_phases.specs.Puts.{PutsAll}
 use Rattle.call_phases.specs.Views.{result_by}
+use Rattle.call_phases.specs.declared.gets.GetFault.{GetFault}
 use Rattle.call_phases.specs.declared.puts.File.{File}
 use Rattle.call_phases.proofs.Chain.{then_gets, then_puts}
 use Rattle.call_phases.proofs.Fed.{stage_goes}
@@ -98,8 +99,8 @@ module _ (tag : Tag) (limit : ℕ) (out : Option Finish) where
   then_append kept start read rows text files es said put h =
       let first : first_after (Some read) ≡ suc read = omega arith in
       let commit : ℕ → List ℕ → Entries → Type 0 = λ n t rest. AtCommit tag limit out kept start n (record { text = t; makes_table = false }) (landed_after (Some read)) rest in
-      let named = subst (λ n. Then (PutsAll files) (out ≡ None) (ByPut kept out) (λ u rest. commit n text rest) es) first h in
-      let told = subst (λ t. Then (PutsAll files) (out ≡ None) (ByPut kept out) (λ u rest. commit (suc read) t rest) es) said named in
+      let named = subst (λ (n : ℕ). Then (PutsAll files) (out ≡ None) (ByPut kept out) (λ u rest. commit n text rest) es) first h in
+      let told = subst (λ (t : List ℕ). Then (PutsAll files) (out ≡ None) (ByPut kept out) (λ u rest. commit (suc read) t rest) es) said named in
       let one = subst (λ (fs : List File). Then (PutsAll fs) (out ≡ None) (ByPut kept out) (λ u rest. AfterPuts tag limit out kept start read rest) es) put told in
       then_puts (out ≡ None) (ByPut kept out) (IsOpen out kept) (λ f rest. Ends out kept (refusal_of_put f) rest) es inl (λ f q. (refl, q)) inr (λ u rest. AfterPuts tag limit out kept start read rest)
       (record { name = data_text tag start 0; body = text_of_rows rows } ∷ []) one
@@ -109,8 +110,8 @@ module _ (tag : Tag) (limit : ℕ) (out : Option Finish) where
       → Then (GetsAll wanted_file files_after f) (out ≡ None) (ByScan kept out) (λ k rest. AfterScan tag limit out kept read live (files_of k) rest) es → Selects tag limit out s kept read es
   then_scan kept read live s f es first all h =
       let after : ℕ → law.Files → Entries → Type 0 = λ n k rest. AfterScan tag limit out kept read n k rest in
-      let counted = subst (λ n. Then (GetsAll wanted_file files_after f) (out ≡ None) (ByScan kept out) (λ k rest. after n (files_of k) rest) es) all h in
-      let fails = λ f rest. Ends out kept (refusal_of_scan f) rest in
+      let counted = subst (λ (n : ℕ). Then (GetsAll wanted_file files_after f) (out ≡ None) (ByScan kept out) (λ k rest. after n (files_of k) rest) es) all h in
+      let fails : GetFault ObjectFault → Entries → Type 0 = λ f rest. Ends out kept (refusal_of_scan f) rest in
       let gets = then_gets wanted_file files_after (out ≡ None) (ByScan kept out) (IsOpen out kept) fails es inl (λ f q. (refl, q)) inr (λ k rest. after (length s.files) (files_of k) rest) f counted in
       subst (λ (k : law.Files). AtGets law.next_file law.scan_next (IsOpen out kept) fails (after (length s.files)) k es) first (gets_view files_of wanted_file files_after law.next_file law.scan_next (λ f. refl) (λ f text. files_told f (law.scan_next (files_of f) text)) (IsOpen out kept) fails (after (length s.files)) f es gets)
 
@@ -128,7 +129,7 @@ module _ (tag : Tag) (limit : ℕ) (out : Option Finish) where
       → AtLoad tag limit out statement start read base es
   then_load statement start read base c spare es from same h =
       let after : law.Commits → Entries → Type 0 = λ k rest. AfterLoad tag limit out statement start read (Some (kept_of spare read k.table)) k.table rest in
-      let fails = λ f rest. Ends out spare (refusal_of_load f) rest in
+      let fails : GetFault ObjectFault → Entries → Type 0 = λ f rest. Ends out spare (refusal_of_load f) rest in
       let gets = then_gets wanted_commit commits_after (out ≡ None) (ByLoad spare out) (IsOpen out spare) fails es inl (λ f q. (refl, q)) inr (λ k rest. after (commits_of k) rest) c h in
       let told = gets_view commits_of wanted_commit commits_after law.next_commit law.apply_next (λ c. refl) (λ c text. commits_told c (law.apply_next (commits_of c) text)) (IsOpen out spare) fails after c es gets in
       let at : law.Commits → Option Kept → Type 0 = λ k o. AtLoad tag limit out statement start read (record { commits = k; spare = o }) es in
@@ -136,9 +137,9 @@ module _ (tag : Tag) (limit : ℕ) (out : Option Finish) where
 
   -- a commit that is needed isn't listed, unless memory was wanting
   pub no_log : (kept : Option Kept) (r s : Refusal) (es : Entries) → (r ≡ s) ⊎ (r ≡ refusal.NoMemory) → Ends out kept r es → Ends out kept refusal.NoMemory es ⊎ Ends out kept s es
-  no_log kept r s es (inl e) h = inr (subst (λ x. Ends out kept x es) e h)
-  no_log kept r s es (inr e) h = inl (subst (λ x. Ends out kept x es) e h)
+  no_log kept r s es (inl e) h = inr (subst (λ (x : Refusal). Ends out kept x es) e h)
+  no_log kept r s es (inr e) h = inl (subst (λ (x : Refusal). Ends out kept x es) e h)
 
 -- a stage that was fed, where its arm is known
 pub fed_at : (self old new : Stage) (input : Fed) → self ≡ old → IfSome (call_of old) (λ call. FedBy (Rest old) call input (Rest new)) → IfSome (call_of self) (λ call. Goes Rest self call input new)
-fed_at self old new input is goes = subst (λ s. IfSome (call_of s) (λ call. Goes Rest s call input new)) (sym is) (stage_goes Rest (Rest old) old new (call_of old) input (λ es y h. h) goes)
+fed_at self old new input is goes = subst (λ (s : Stage). IfSome (call_of s) (λ call. Goes Rest s call input new)) (sym is) (stage_goes Rest (Rest old) old new (call_of old) input (λ es y h. h) goes)

@@ -17,7 +17,6 @@ use crate::{Commits, DataStep, Plan, ScanStep, Stage, Supported};
 use call_phases::{CallFault, GetFault, Gets, ListNames, ReadClock, Ready, Step, go};
 use edge_api::{Listed, Listing};
 use op_types::{Feature, ObjectFault, Refusal, Statement};
-use row_base::limits::VERSION_LIMIT;
 use statement_calls::{Kept, TableStatement};
 use std::alloc::Global;
 use table_rules::{commit_name, log_prefix};
@@ -232,15 +231,11 @@ impl LoadStep {
         let Some(version) = newest else {
             return Stage::refused(kept, Refusal::NoTable);
         };
-        if version >= VERSION_LIMIT {
-            return Stage::refused(
-                kept,
-                Refusal::Unsupported {
-                    feature: Feature::Versions,
-                },
-            );
-        }
-        LoadStep::loads_from(plan, statement, kept, start, listing, Supported { version })
+        let Some(read) = Supported::make(version) else {
+            let feature = Feature::Versions;
+            return Stage::refused(kept, Refusal::Unsupported { feature });
+        };
+        LoadStep::loads_from(plan, statement, kept, start, listing, read)
     }
 }
 
