@@ -89,7 +89,7 @@ module _ (tag : Tag) (limit : ℕ) (out : Option Finish) where
   then_commit kept start first j landed es h =
       then_attempts_view plan_of Makes Says Bodies Judges (λ j now made new b. b) (λ j winner v new b. b) (record { start = start; retention = retention; first = first }) (out ≡ None) (ByAttempt kept out)
       (λ p. IsOpen out kept) (λ p f rest. Ends out kept (refusal_of_attempt f) rest) (λ p l rest. Replies out kept (landed l) rest) es (λ k e. inl e) (λ l e. (refl, e)) (λ j e. inr e)
-      (λ (w : Won CommitJudge) rest. Replies out kept (landed w.landed) rest) (λ w rest e. e) limit 0 [] j h
+      (λ (w : Won CommitJudge) rest. Replies out kept (landed w.landed) rest) (λ j l rest e. e) limit 0 [] j h
 
   -- memory was wanting before the first attempt
   pub no_commit : (kept : Option Kept) (start first : ℕ) (p : CommitPlan) (landed : Landed → Reply) (es : Entries) → 0 < limit → Ends out kept refusal.NoMemory es → AtCommit tag limit out kept start first p landed es
