@@ -1,5 +1,5 @@
 -- The arrows of a statement: a phase, and what follows it, told of what readers and judges stand for.
-use Rattle.std.proofs.Common.{◌≡◌, ◌⊎◌, inl, inr, ℕ, zero, suc, ◌+◌, ◌<◌, List, [], ◌∷◌, length, Bool, true, false, refl, sym, ap, subst, arith}
+use Rattle.std.proofs.Common.{◌≡◌, ◌⊎◌, inl, inr, ℕ, zero, suc, ◌<◌, List, [], ◌∷◌, length, Bool, true, false, refl, sym, ap, subst, arith}
 use Rattle.std.specs.Prelude.{nat_lt, Option, Some, None, MatchOption, MatchBool, IfSome, Result, Ok, Err}
 use Rattle.edge_api.specs.declared.call.Tag.{Tag}
 use Rattle.edge_api.specs.declared.actor.Fed.{Fed}
@@ -10,7 +10,6 @@ use Rattle.op_types.specs.declared.refusal.Refusal.{Refusal}
 use Rattle.op_types.specs.declared.refusal.Refusal.TheVariants as refusal
 use Rattle.op_types.specs.fault.Feature.TheVariants.{Versions}
 use Rattle.op_types.specs.declared.reply.Reply.{Reply}
-use Rattle.op_types.specs.declared.reply.Reply.TheVariants.{Refused}
 use Rattle.table_rules.specs.Names.{data_text}
 use Rattle.line_texts.specs.Texts.{text_of_add, text_of_rows}
 use Rattle.snapshot_replay.specs.Table.{Snapshot, Add, paths_of}
@@ -37,8 +36,8 @@ use Rattle.statement_calls.specs.declared.statement.TableStatement.{TableStateme
 use Rattle.statement_calls.specs.Bounds.{version_limit}
 use Rattle.statement_calls.specs.Judging.{CommitPlan, Bodies, Judges}
 use Rattle.statement_calls.specs.Objects as law
-use Rattle.statement_calls.specs.Outcome.{refused, refusal_of_load, refusal_of_scan, refusal_of_put, refusal_of_attempt, IsOpen, Ends, Replies}
-use Rattle.statement_calls.specs.Answered.{retention, committed, Base, base_of, AtCommit, AfterPuts, Appends, AfterScan, Selects, AfterLoad, AtLoad, LoadsFrom, Loads}
+use Rattle.statement_calls.specs.Outcome.{refusal_of_load, refusal_of_scan, refusal_of_put, refusal_of_attempt, IsOpen, Ends, Replies}
+use Rattle.statement_calls.specs.Answered.{retention, Base, base_of, AtCommit, AfterPuts, Appends, AfterScan, Selects, AfterLoad, AtLoad, LoadsFrom, Loads}
 use Rattle.txn_machine.specs.declared.commits.Commits.{Commits}
 use Rattle.txn_machine.specs.declared.files.Files.{Files}
 use Rattle.txn_machine.specs.declared.judge.CommitJudge.{CommitJudge}
