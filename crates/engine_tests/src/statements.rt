@@ -6,10 +6,11 @@ ghost use Rattle.txn_machine.specs.Txn.{IsReady};
 use edge_api::{Actor, Body, Call, Fed, MemWorld, Name, Stage as Place, Step, Tag, World};
 use op_types::{Refusal, Reply, Statement, TableSpec};
 use row_base::{Column, Datum, Items, Kind, NoMemory, Rows, Text};
+use statement_calls::Finish;
 use std::alloc::{AllocError, Global};
 use std::test::Fail;
 use table_rules::{LogName, read_log_name};
-use txn_machine::{DataFile, Finish, Txn, replay};
+use txn_machine::{DataFile, Txn, replay};
 
 /// Notes a name: a commit by its version.
 fn note_name(text: &mut String, word: &str, name: &Name) -> Result<(), AllocError> {
@@ -116,7 +117,7 @@ fn note_end(text: &mut String, txn: Txn) -> Result<(), AllocError>
     if txn.pending.is_some() {
         return text.push_str("open");
     }
-    let Finish { reply } = txn.finish();
+    let Finish { reply, .. } = txn.finish();
     note_reply(text, &reply)
 }
 
@@ -128,7 +129,7 @@ fn begun(alloc: Global, number: u32, what: Statement) -> Txn
         actor: 1,
         statement: number,
     };
-    Txn::new(alloc, tag, what, 10)
+    Txn::new(alloc, tag, what, 10, None)
 }
 
 /// The calls of a statement and its reply.

@@ -1,153 +1,170 @@
 -- Where a statement stands is told by its next call.
-use Rattle.std.proofs.Common.{◌≡◌, Bool, true, false, ℕ, ◌+◌, ◌*◌, ◌<◌, List, [], ◌∷◌, length, refl, sym, ◌∙◌, ap, subst, arith}
+use Rattle.std.proofs.Common.{◌≡◌, Bool, true, false, ℕ, ◌<◌, List, refl, sym, ◌∙◌, subst, arith}
 use Rattle.std.specs.Prelude.{Option, Some, None, IfSome}
 use Rattle.edge_api.specs.declared.call.Call.{Call}
-use Rattle.edge_api.specs.declared.call.Call.TheVariants.{Get, PutNew, List as ListNames, Now}
+use Rattle.edge_api.specs.declared.call.Call.TheVariants.{Get, PutNew, Put, List as ListNames, Delete, Now, Wait}
 use Rattle.edge_api.specs.declared.call.Tag.{Tag}
-use Rattle.edge_api.specs.declared.actor.Stage.{Stage as Place}
 use Rattle.edge_api.specs.declared.actor.Stage.TheVariants as place
 use Rattle.edge_api.specs.declared.actor.Fed.{Fed}
 use Rattle.edge_api.specs.declared.actor.Fed.TheVariants as fed
 use Rattle.edge_api.specs.Actor.{event_of}
-use Rattle.op_types.specs.declared.reply.Reply.{Reply}
-use Rattle.table_rules.specs.Names.{log_prefix, commit_text}
-use Rattle.call_phases.specs.Phases.{Entries}
-use Rattle.committer.specs.Machine as attempts
-use Rattle.committer.specs.declared.progress.Progress.{Progress}
-use Rattle.committer.specs.declared.stage.Stage.{Stage as Attempt}
-use Rattle.committer.specs.declared.stage.Stage.TheVariants as attempt
-use Rattle.txn_machine.specs.declared.stage.Plan.{Plan}
+use Rattle.table_rules.specs.Names.{log_name}
+use Rattle.table_rules.specs.declared.log.LogName.{LogName}
+use Rattle.table_rules.specs.declared.log.LogName.TheVariants as log
+use Rattle.call_phases.specs.Clock as clock
+use Rattle.call_phases.specs.Machine.{Goes, LeftBy}
+use Rattle.call_phases.specs.declared.clock.ClockStage.{ClockStage}
+use Rattle.call_phases.specs.declared.clock.ClockStage.TheVariants as of_clock
+use Rattle.statement_calls.specs.Bounds.{most_calls}
+use Rattle.statement_calls.specs.Place.{place_of_name, place_of_call, place_at, IsCallAt}
 use Rattle.txn_machine.specs.declared.stage.Stage.{Stage}
 use Rattle.txn_machine.specs.declared.stage.Stage.TheVariants as stage
 use Rattle.txn_machine.specs.declared.txn.Txn.{Txn}
-use Rattle.txn_machine.specs.Machine.{Rest, Follows, FedTo, call_of, first_get, left_of}
-use Rattle.txn_machine.specs.Place.{place_of, place_of_put, place_of_files, place_of_attempts, PutsCommit, IsCallAt}
-use Rattle.txn_machine.specs.Txn.{Asks, Goes, LeftBy, IsNothingLeft}
+use Rattle.txn_machine.specs.Machine.{Rest, call_of, left_of}
+use Rattle.txn_machine.specs.Place.{is_first, place_of, IsWithin}
+use Rattle.txn_machine.specs.Txn as txn
 
-files_done : (paths : List (List ℕ)) → first_get paths ≡ None → place_of_files paths ≡ place.Done
-files_done [] is = refl
-files_done (p ∷ ps) is = cc
+name_call : (n : LogName) (name body : List ℕ) → log_name name ≡ n → IsCallAt (place_of_name n) (PutNew name body)
+name_call (log.Commit version) name body is = (version, is)
+name_call (log.CheckpointJson version) name body is = λ puts. let e : log.Commit puts.0 ≡ log.CheckpointJson version = sym puts.1 ∙ is in cc
+name_call (log.CheckpointOther version) name body is = λ puts. let e : log.Commit puts.0 ≡ log.CheckpointOther version = sym puts.1 ∙ is in cc
+name_call log.Hint name body is = λ puts. let e : log.Commit puts.0 ≡ log.Hint = sym puts.1 ∙ is in cc
+name_call log.OtherLog name body is = λ puts. let e : log.Commit puts.0 ≡ log.OtherLog = sym puts.1 ∙ is in cc
+name_call log.Outside name body is = λ puts. let e : log.Commit puts.0 ≡ log.Outside = sym puts.1 ∙ is in cc
 
-attempts_done : (o : Option Call) → o ≡ None → place_of_attempts o ≡ place.Done
-attempts_done None is = refl
-attempts_done (Some call) is = cc
+-- a call within a statement is that of its place
+pub call_within : (c : Call) → IsCallAt (place_of_call c) c
+call_within (PutNew name body) = name_call (log_name name) name body refl
+call_within (Get name) = λ puts. puts
+call_within (Put name body) = λ puts. puts
+call_within (ListNames prefix) = λ puts. puts
+call_within (Delete name) = λ puts. puts
+call_within Now = λ puts. puts
+call_within (Wait time) = λ puts. puts
 
--- nothing is called any more
-pub is_done : (s : Stage) → call_of s ≡ None → place_of s ≡ place.Done
-is_done (stage.Start s) is = cc
-is_done (stage.Listing l) is = cc
-is_done (stage.Loading l) is = cc
-is_done (stage.Files f) is = files_done f.left.items is
-is_done (stage.Data d) is = cc
-is_done (stage.Attempting a) is = attempts_done (attempts.call_of a.attempts) is
-is_done (stage.Done r) is = refl
+clock_call : (s : ClockStage) (c : Call) → clock.call_at s ≡ Some c → c ≡ Now
+clock_call (of_clock.Asking r) c is = cc
+clock_call (of_clock.Read t) c is = cc
+clock_call (of_clock.Failed f) c is = cc
 
-files_not : (paths : List (List ℕ)) (c : Call) → first_get paths ≡ Some c → place_of_files paths ≡ place.Done → ⊥
-files_not [] c is done = cc
-files_not (p ∷ ps) c is done = cc
+clock_left : (s : ClockStage) (c : Call) → clock.call_at s ≡ Some c → clock.left_at s ≡ 1
+clock_left (of_clock.Asking r) c is = refl
+clock_left (of_clock.Read t) c is = cc
+clock_left (of_clock.Failed f) c is = cc
 
-put_not : (b : Bool) → place_of_put b ≡ place.Done → ⊥
-put_not true done = cc
-put_not false done = cc
+-- by whether the phase is the first
+at_call : (first : Bool) (o : Option Call) (c : Call) → o ≡ Some c → (first ≡ true → c ≡ Now) → IsCallAt (place_at first o) c
+at_call true None c is now = cc
+at_call false None c is now = cc
+at_call true (Some call) c is now = now refl
+at_call false (Some call) c is now = let same : call ≡ c = cc in subst (λ x. IsCallAt (place_of_call call) x) same (call_within call)
 
-attempts_not : (o : Option Call) (c : Call) → o ≡ Some c → place_of_attempts o ≡ place.Done → ⊥
-attempts_not None c is done = cc
-attempts_not (Some call) c is done = put_not (attempts.is_put (Some call)) done
-
--- something is still to be called
-pub not_done : (s : Stage) (c : Call) → call_of s ≡ Some c → place_of s ≡ place.Done → ⊥
-not_done (stage.Start s) c is done = cc
-not_done (stage.Listing l) c is done = cc
-not_done (stage.Loading l) c is done = cc
-not_done (stage.Files f) c is done = files_not f.left.items c is done
-not_done (stage.Data d) c is done = cc
-not_done (stage.Attempting a) c is done = attempts_not (attempts.call_of a.attempts) c is done
-not_done (stage.Done r) c is done = cc
-
-files_call : (paths : List (List ℕ)) (c : Call) → first_get paths ≡ Some c → IsCallAt (place_of_files paths) c
-files_call [] c is = cc
-files_call (p ∷ ps) c is = λ puts. let same : c ≡ Get p = cc in subst PutsCommit same puts
-
-attempt_call : {C : Type 0} (s : Attempt C) (c : Call) → attempts.call_at s ≡ Some c → IsCallAt (place_of_attempts (attempts.call_at s)) c
-attempt_call (attempt.Clock r) c is = λ puts. let same : c ≡ Now = cc in subst PutsCommit same puts
-attempt_call (attempt.Put put) c is = let same : PutNew put.commit.name put.text ≡ c = cc in subst PutsCommit same (put.commit.version, put.commit.named)
-attempt_call (attempt.ReadBack put) c is = λ puts. let same : c ≡ Get put.commit.name = cc in subst PutsCommit same puts
-attempt_call (attempt.Winner w) c is = λ puts. let same : c ≡ Get w.name = cc in subst PutsCommit same puts
-attempt_call (attempt.Landed version now) c is = cc
-attempt_call (attempt.Failed f) c is = cc
+first_call : (s : Stage) (c : Call) → call_of s ≡ Some c → is_first s ≡ true → c ≡ Now
+first_call (stage.Clock s k) c is first = clock_call k.stage c is
+first_call (stage.List s l) c is first = cc
+first_call (stage.Load s g) c is first = cc
+first_call (stage.Scan s g) c is first = cc
+first_call (stage.Data s p) c is first = cc
+first_call (stage.Commit s a) c is first = cc
+first_call (stage.Done f) c is first = cc
 
 -- the next call is that of the place
 pub call_is : (s : Stage) (c : Call) → call_of s ≡ Some c → IsCallAt (place_of s) c
-call_is (stage.Start s) c is = cc
-call_is (stage.Listing l) c is = λ puts. let same : c ≡ ListNames log_prefix = cc in subst PutsCommit same puts
-call_is (stage.Loading l) c is = λ puts. let same : c ≡ Get (commit_text l.at) = cc in subst PutsCommit same puts
-call_is (stage.Files f) c is = files_call f.left.items c is
-call_is (stage.Data d) c is = λ puts. let same : c ≡ PutNew d.path d.body = cc in let commit = subst PutsCommit same puts in d.outside commit.0 commit.1
-call_is (stage.Attempting a) c is = attempt_call a.attempts.stage c is
-call_is (stage.Done r) c is = cc
+call_is s c is = at_call (is_first s) (call_of s) c is (first_call s c is)
 
-files_later : (paths : List (List ℕ)) → place_of_files paths ≡ place.Between → ⊥
-files_later [] is = cc
-files_later (p ∷ ps) is = cc
+name_within : (n : LogName) → IsWithin (place_of_name n)
+name_within (log.Commit version) = tt
+name_within (log.CheckpointJson version) = tt
+name_within (log.CheckpointOther version) = tt
+name_within log.Hint = tt
+name_within log.OtherLog = tt
+name_within log.Outside = tt
 
-put_later : (b : Bool) → place_of_put b ≡ place.Between → ⊥
-put_later true is = cc
-put_later false is = cc
+call_stays : (c : Call) → IsWithin (place_of_call c)
+call_stays (PutNew name body) = name_within (log_name name)
+call_stays (Get name) = tt
+call_stays (Put name body) = tt
+call_stays (ListNames prefix) = tt
+call_stays (Delete name) = tt
+call_stays Now = tt
+call_stays (Wait time) = tt
 
-attempts_later : (o : Option Call) → place_of_attempts o ≡ place.Between → ⊥
-attempts_later None is = cc
-attempts_later (Some call) is = put_later (attempts.is_put (Some call)) is
+at_within : (first : Bool) (o : Option Call) (c : Call) → o ≡ Some c → first ≡ false → IsWithin (place_at first o)
+at_within true o c is first = cc
+at_within false None c is first = cc
+at_within false (Some call) c is first = call_stays call
 
 -- a statement that has made a call is no new one
-pub not_new : (p : Plan) (s : Stage) → left_of p s < 3 * p.limit + 2097200 → place_of s ≡ place.Between → ⊥
-not_new p (stage.Start s) less is = omega (arith, less)
-not_new p (stage.Listing l) less is = cc
-not_new p (stage.Loading l) less is = cc
-not_new p (stage.Files f) less is = files_later f.left.items is
-not_new p (stage.Data d) less is = cc
-not_new p (stage.Attempting a) less is = attempts_later (attempts.call_of a.attempts) is
-not_new p (stage.Done r) less is = cc
+not_first : (s : Stage) (c : Call) → call_of s ≡ Some c → left_of s < most_calls → is_first s ≡ false
+not_first (stage.Clock s k) c is less = let one = clock_left k.stage c is in absurd (omega (arith, one, less))
+not_first (stage.List s l) c is less = refl
+not_first (stage.Load s g) c is less = refl
+not_first (stage.Scan s g) c is less = refl
+not_first (stage.Data s p) c is less = refl
+not_first (stage.Commit s a) c is less = refl
+not_first (stage.Done f) c is less = refl
 
-files_left : (paths : List (List ℕ)) → LeftBy (length paths) (first_get paths)
-files_left [] = refl
-files_left (p ∷ ps) = omega arith
+-- .. and is within, while it makes calls
+pub stays : (s : Stage) (c : Call) → call_of s ≡ Some c → left_of s < most_calls → IsWithin (place_of s)
+stays s c is less = at_within (is_first s) (call_of s) c is (not_first s c is less)
 
-attempts_left : {C : Type 0} (p : Progress) (s : Attempt C) → LeftBy (attempts.left_at p s) (attempts.call_at s)
-attempts_left p (attempt.Clock r) = omega arith
-attempts_left p (attempt.Put put) = omega arith
-attempts_left p (attempt.ReadBack put) = omega arith
-attempts_left p (attempt.Winner c) = omega arith
-attempts_left p (attempt.Landed version now) = refl
-attempts_left p (attempt.Failed f) = refl
+at_done : (first : Bool) (o : Option Call) → o ≡ None → place_at first o ≡ place.Done
+at_done true None is = refl
+at_done false None is = refl
+at_done first (Some call) is = cc
 
--- calls are left exactly where there is a next one
-pub nothing_left : (p : Plan) (s : Stage) → IsNothingLeft p s (call_of s)
-nothing_left p (stage.Start s) = omega arith
-nothing_left p (stage.Listing l) = omega arith
-nothing_left p (stage.Loading l) = omega arith
-nothing_left p (stage.Files f) = files_left f.left.items
-nothing_left p (stage.Data d) = omega arith
-nothing_left p (stage.Attempting a) = attempts_left a.attempts.progress a.attempts.stage
-nothing_left p (stage.Done r) = refl
+-- it is done exactly where nothing is called any more
+pub is_done : (s : Stage) → call_of s ≡ None → place_of s ≡ place.Done
+is_done s is = at_done (is_first s) (call_of s) is
+
+name_not : (n : LogName) → place_of_name n ≡ place.Done → ⊥
+name_not (log.Commit version) done = cc
+name_not (log.CheckpointJson version) done = cc
+name_not (log.CheckpointOther version) done = cc
+name_not log.Hint done = cc
+name_not log.OtherLog done = cc
+name_not log.Outside done = cc
+
+pub call_not : (c : Call) → place_of_call c ≡ place.Done → ⊥
+call_not (PutNew name body) done = name_not (log_name name) done
+call_not (Get name) done = cc
+call_not (Put name body) done = cc
+call_not (ListNames prefix) done = cc
+call_not (Delete name) done = cc
+call_not Now done = cc
+call_not (Wait time) done = cc
+
+at_none : (first : Bool) (o : Option Call) → place_at first o ≡ place.Done → o ≡ None
+at_none first None done = refl
+at_none true (Some call) done = cc
+at_none false (Some call) done = absurd (call_not call done)
+
+none_left : (n : ℕ) (o : Option Call) → LeftBy n o → o ≡ None → n ≡ 0
+none_left n None left is = left
+none_left n (Some call) left is = cc
+
+left_none : (n : ℕ) (o : Option Call) → LeftBy n o → n ≡ 0 → o ≡ None
+left_none n None left is = refl
+left_none n (Some call) left is = absurd (omega (arith, left, is))
+
+-- nothing is left exactly at the end
+pub done_left : (s : Stage) → LeftBy (left_of s) (call_of s) → place_of s ≡ place.Done → left_of s ≡ 0
+done_left s left done = none_left (left_of s) (call_of s) left (at_none (is_first s) (call_of s) done)
+
+pub left_done : (s : Stage) → LeftBy (left_of s) (call_of s) → left_of s ≡ 0 → place_of s ≡ place.Done
+left_done s left is = is_done s (left_none (left_of s) (call_of s) left is)
 
 -- what the statement was fed leads on
-pub fed_leads : (old self : Txn) (tag : Tag) (call : Call) (input : Fed) (new : Txn) → Asks old tag call self → new.plan ≡ self.plan
-    → IfSome (call_of self.stage) (λ call. FedTo self.plan self.stage call input new.stage) → (input ≡ fed.NoMemory → call_of new.stage ≡ None) → Goes old (event_of tag call input) new
-fed_leads old self tag call input new asks plan goes ended = by input (subst (λ (o : Option Call). IfSome o (λ c. FedTo self.plan self.stage c input new.stage)) (ap call_of asks.stage ∙ asks.is_call) goes) ended
+pub fed_leads : (old self : Txn) (tag : Tag) (call : Call) (input : Fed) (new : Txn) → txn.Asks old tag call self → new.tag ≡ self.tag
+    → IfSome (call_of self.stage) (λ call. Goes Rest self.stage call input new.stage) → (input ≡ fed.NoMemory → call_of new.stage ≡ None) → txn.Goes old (event_of tag call input) new
+fed_leads old self tag call input new asks same goes ended = by input here ended
   where
-    by : (input : Fed) → FedTo self.plan self.stage call input new.stage → (input ≡ fed.NoMemory → call_of new.stage ≡ None) → Goes old (event_of tag call input) new
-    by (fed.Answer answer) follows ended = (
-      plan ∙ asks.plan,
-      asks.is_tag,
-      λ es reply h.
-          let here : Follows old.plan old.stage call answer new.stage = subst (λ (s : Stage). Follows old.plan s call answer new.stage) asks.stage (subst (λ (p : Plan). Follows p self.stage call answer new.stage) asks.plan follows) in
-          subst (λ (t : Tag). Rest old.plan old.stage (record { tag = t; call = call; answer = answer } ∷ es) reply) (sym asks.is_tag) (here es reply h),
-    )
-    by fed.NoMemory ends ended = (
-      plan ∙ asks.plan,
-      ended refl,
-      λ es reply h.
-          let mine : Rest self.plan new.stage es reply = subst (λ (p : Plan). Rest p new.stage es reply) (sym asks.plan) h in
-          let e = ends es reply mine in
-          (e.0, subst (λ (s : Stage). Rest old.plan s es reply) asks.stage (subst (λ (p : Plan). Rest p self.stage es reply) asks.plan e.1)),
-    )
+    at_old : IfSome (call_of old.stage) (λ c. Goes Rest old.stage c input new.stage)
+    at_old = subst (λ (s : Stage). IfSome (call_of s) (λ c. Goes Rest s c input new.stage)) asks.stage goes
+
+    here : Goes Rest old.stage call input new.stage
+    here = subst (λ (o : Option Call). IfSome o (λ c. Goes Rest old.stage c input new.stage)) asks.is_call at_old
+
+    by : (input : Fed) → Goes Rest old.stage call input new.stage → (input ≡ fed.NoMemory → call_of new.stage ≡ None) → txn.Goes old (event_of tag call input) new
+    by (fed.Answer answer) leads ended = (same ∙ asks.same, asks.is_tag, λ es out h. leads tag es out h)
+    by fed.NoMemory stops ended = (same ∙ asks.same, ended refl, stops)
