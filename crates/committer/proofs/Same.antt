@@ -2,13 +2,15 @@
 use Rattle.std.proofs.Common.{◌≡◌, ℕ, List, Result, IfSome, subst, sym}
 use Rattle.edge_api.specs.declared.call.Answer.{Answer}
 use Rattle.call_phases.specs.Phases.{Entries}
+use Rattle.committer.specs.declared.fault.Lost.{Lost}
+use Rattle.committer.specs.declared.fault.Won.{Won}
 use Rattle.call_phases.specs.Ending.{Ending}
 use Rattle.committer.specs.declared.judge.BodyFault.{BodyFault}
 use Rattle.committer.specs.declared.judge.Verdict.{Verdict}
 use Rattle.committer.specs.declared.stage.Stage.{Stage}
 use Rattle.committer.specs.declared.attempts.Attempts.{Attempts}
 use Rattle.committer.specs.Machine.{call_at, Leads}
-use Rattle.committer.specs.Attempts.{Terms, Lost, Won, AttemptsEnd}
+use Rattle.committer.specs.Attempts.{Terms, AttemptsEnd}
 
 module _ {J C : Type 0} (bodies : J → ℕ → Result (List ℕ) BodyFault → J → Type 0) (judges : J → List ℕ → Verdict C → J → Type 0) where
   pub same_attempts : (terms : Terms) (m n lost more : ℕ) (ws vs : List (List ℕ)) (j : J) (es : Entries) (o : Ending (Lost J C) (Won J)) → m ≡ n → lost ≡ more → ws ≡ vs

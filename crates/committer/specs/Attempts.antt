@@ -3,8 +3,9 @@ use Rattle.std.specs.Prelude.{◌≡◌, ◌⊎◌, ℕ, zero, suc, ◌+◌, ◌
 use Rattle.std.specs.Str.{bytes_eq}
 use Rattle.table_rules.specs.Names.{commit_text}
 use Rattle.call_phases.specs.Phases.{Entries, AtNow, AtGet, AtPutNew}
-use Rattle.call_phases.specs.Ending.{Ending, Open, Failed, Ended}
-use Rattle.committer.specs.Names.{called_now, called_put, called_get}
+use Rattle.call_phases.specs.Ending.{Ending}
+use Rattle.call_phases.specs.Endings.{IsOpenEnd, HasFailed, HasEnded}
+use Rattle.call_phases.specs.Called.{called_now, called_put, called_get}
 use Rattle.committer.specs.declared.judge.BodyFault.{BodyFault}
 use Rattle.committer.specs.declared.judge.BodyFault.TheVariants as body_fault
 use Rattle.committer.specs.declared.judge.Verdict.{Verdict}
@@ -12,6 +13,8 @@ use Rattle.committer.specs.declared.judge.Verdict.TheVariants as verdict
 use Rattle.committer.specs.declared.fault.AttemptFault.{AttemptFault}
 use Rattle.committer.specs.declared.fault.AttemptFault.TheVariants as fault
 use Rattle.committer.specs.declared.fault.Landed.{Landed}
+use Rattle.committer.specs.declared.fault.Lost.{Lost}
+use Rattle.committer.specs.declared.fault.Won.{Won}
 
 -- what attempts are told: the start of the statement, the table's retention, both in milliseconds, and the version of the first attempt
 pub record Terms : Type 0 where
@@ -44,13 +47,13 @@ module _ {J C : Type 0} (bodies : J → ℕ → Result (List ℕ) BodyFault → 
   -- the name was taken: the winner is got and judged
   abbrev pub AtWinner : ℕ → J → (List ℕ → J → Entries → Type 0) → Entries → Type 0
   AtWinner version j again es =
-      AtGet (open_end j) (commit_text version) (λ rest. fails j (fault.Fault (called_get version)) rest) (λ rest. fails j (fault.LogGone (commit_text version)) rest)
+      AtGet (open_end j) (commit_text version) (λ rest. fails j (fault.Fault (called_get (commit_text version))) rest) (λ rest. fails j (fault.LogGone (commit_text version)) rest)
       (λ winner rest. Judged version j winner (again winner) rest) es
 
   -- the reply was lost: the commit is read back. The same bytes are the statement's own commit, other bytes are a winner
   abbrev pub AtReadBack : ℕ → J → List ℕ → (Entries → Type 0) → (List ℕ → J → Entries → Type 0) → Entries → Type 0
   AtReadBack version j text landed again es =
-      AtGet (open_end j) (commit_text version) (λ rest. fails j (fault.OutcomeUnknown version) rest) (λ rest. fails j (fault.Fault (called_put version)) rest)
+      AtGet (open_end j) (commit_text version) (λ rest. fails j (fault.OutcomeUnknown version) rest) (λ rest. fails j (fault.Fault (called_put (commit_text version))) rest)
       (λ found rest. MatchBool (bytes_eq found text) (landed rest) (Judged version j found (again found) rest)) es
 
   -- the put of the commit
@@ -77,25 +80,22 @@ module _ {J C : Type 0} (bodies : J → ℕ → Result (List ℕ) BodyFault → 
       (λ new. lands new (record { version = terms.first + lost; attempts = suc lost; now = now; winners = winners }))
       (λ winner new. AtAttempt left (suc lost) (winners ++ winner ∷ []) new) rest) es
 
--- what a failed and what a landed phase hands back
-pub record Lost (J C : Type 0) : Type 0 where
-  pub judge : J
-  pub fault : AttemptFault C
+-- how they end, by the judge and the fault, or the commit that landed
+abbrev pub lost_by : {J C : Type 0} → J → AttemptFault C → Lost J C
+lost_by j f = record { judge = j; fault = f }
 
-pub record Won (J : Type 0) : Type 0 where
-  pub judge : J
-  pub landed : Landed
+abbrev pub won_by : {J : Type 0} → J → Landed → Won J
+won_by j l = record { judge = j; landed = l }
 
--- the attempts of these entries ended so. They are open, or memory was wanting, where the entries end before a call
-abbrev pub IsOpenEnd : {J C : Type 0} → Ending (Lost J C) (Won J) → J → Type 0
-IsOpenEnd o j = (o ≡ Open) ⊎ (o ≡ Failed (record { judge = j; fault = fault.NoMemory }))
+abbrev pub IsOpenAt : {J C : Type 0} → Ending (Lost J C) (Won J) → J → Type 0
+IsOpenAt o j = IsOpenEnd (lost_by j fault.NoMemory) o
 
-abbrev pub HasFailed : {J C : Type 0} → Ending (Lost J C) (Won J) → J → AttemptFault C → Entries → Type 0
-HasFailed o j f es = (es ≡ []) × (o ≡ Failed (record { judge = j; fault = f }))
+abbrev pub FailsBy : {J C : Type 0} → Ending (Lost J C) (Won J) → J → AttemptFault C → Entries → Type 0
+FailsBy o j f es = HasFailed o (lost_by j f) es
 
-abbrev pub HasLanded : {J C : Type 0} → Ending (Lost J C) (Won J) → J → Landed → Entries → Type 0
-HasLanded o j l es = o ≡ Ended (record { judge = j; landed = l }) es
+abbrev pub LandsBy : {J C : Type 0} → Ending (Lost J C) (Won J) → J → Landed → Entries → Type 0
+LandsBy o j l es = HasEnded o (won_by j l) es
 
 module _ {J C : Type 0} (bodies : J → ℕ → Result (List ℕ) BodyFault → J → Type 0) (judges : J → List ℕ → Verdict C → J → Type 0) (terms : Terms) where
   abbrev pub AttemptsEnd : ℕ → ℕ → List (List ℕ) → J → Entries → Ending (Lost J C) (Won J) → Type 0
-  AttemptsEnd left lost winners j es o = AtAttempt bodies judges terms (IsOpenEnd o) (HasFailed o) (HasLanded o) left lost winners j es
+  AttemptsEnd left lost winners j es o = AtAttempt bodies judges terms (IsOpenAt o) (FailsBy o) (LandsBy o) left lost winners j es

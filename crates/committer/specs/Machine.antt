@@ -2,22 +2,21 @@
 use Rattle.std.specs.Prelude.{◌≡◌, ℕ, suc, ◌+◌, ◌*◌, List, [], ◌∷◌, ◌++◌, Option, Some, None, Bool, true, false, Result, Ok, Err}
 use Rattle.edge_api.specs.declared.call.Call.{Call}
 use Rattle.edge_api.specs.declared.call.Call.TheVariants.{Get, PutNew, Put, List as ListNames, Delete, Now, Wait}
-use Rattle.edge_api.specs.declared.actor.Fed.{Fed}
-use Rattle.edge_api.specs.declared.actor.Fed.TheVariants as fed
 use Rattle.edge_api.specs.declared.call.Tag.{Tag}
 use Rattle.edge_api.specs.declared.call.Answer.{Answer}
 use Rattle.call_phases.specs.Phases.{Entries}
 use Rattle.call_phases.specs.Ending.{Ending}
-use Rattle.committer.specs.Attempts.{Terms, AtWinner, AtReadBack, AtCommitPut, Lost, Won, IsOpenEnd, HasFailed, HasLanded, AttemptsEnd}
+use Rattle.committer.specs.Attempts.{Terms, AtWinner, AtReadBack, AtCommitPut, IsOpenAt, FailsBy, LandsBy, AttemptsEnd}
 use Rattle.committer.specs.declared.judge.BodyFault.{BodyFault}
 use Rattle.committer.specs.declared.judge.Verdict.{Verdict}
 use Rattle.committer.specs.declared.fault.AttemptFault.{AttemptFault}
 use Rattle.committer.specs.declared.fault.Landed.{Landed}
+use Rattle.committer.specs.declared.fault.Lost.{Lost}
+use Rattle.committer.specs.declared.fault.Won.{Won}
 use Rattle.committer.specs.declared.progress.Progress.{Progress}
 use Rattle.committer.specs.declared.stage.Stage.{Stage}
 use Rattle.committer.specs.declared.stage.Stage.TheVariants as stage
 use Rattle.committer.specs.declared.attempts.Attempts.{Attempts}
-use Rattle.committer.specs.declared.attempts.Attempted.{Attempted}
 
 -- the version of the first attempt, by the read version
 abbrev pub first_after : Option ℕ → ℕ
@@ -44,14 +43,6 @@ call_of a = call_at a.stage
 -- the next call is made ready, or there is none
 abbrev pub IsReady : {J C : Type 0} → Attempts J C → Type 0
 IsReady a = a.call ≡ call_of a
-
--- the call was given, and its answer is waited for
-abbrev pub called : {J C : Type 0} → Attempts J C → Attempts J C
-called a = record a { call = None }
-
--- nothing is called any more
-abbrev pub IsEnded : {J C : Type 0} → Attempts J C → Type 0
-IsEnded a = call_of a ≡ None
 
 -- whether a call is the put of a free name, as a commit's is
 abbrev pub is_put_new : Call → Bool
@@ -81,7 +72,7 @@ left_of a = left_at a.progress a.stage
 
 -- the attempt landed
 abbrev pub EndLanded : {J C : Type 0} → Progress → List (List ℕ) → ℕ → ℕ → Ending (Lost J C) (Won J) → J → Entries → Type 0
-EndLanded p winners version now o j es = HasLanded o j (record { version = version; attempts = suc p.lost; now = now; winners = winners }) es
+EndLanded p winners version now o j es = LandsBy o j (record { version = version; attempts = suc p.lost; now = now; winners = winners }) es
 
 module _ {J C : Type 0} (bodies : J → ℕ → Result (List ℕ) BodyFault → J → Type 0) (judges : J → List ℕ → Verdict C → J → Type 0) where
   -- the attempts that may follow one that was lost to this winner
@@ -92,14 +83,14 @@ module _ {J C : Type 0} (bodies : J → ℕ → Result (List ℕ) BodyFault → 
   abbrev pub RestAt : Progress → List (List ℕ) → J → Stage C → Entries → Ending (Lost J C) (Won J) → Type 0
   RestAt p winners j (stage.Clock r) es o = AttemptsEnd bodies judges (terms_of p) (suc p.left) p.lost winners j es o
   RestAt p winners j (stage.Put put) es o =
-      AtCommitPut bodies judges (terms_of p) (IsOpenEnd o) (HasFailed o) (HasLanded o) put.commit.version j put.text
+      AtCommitPut bodies judges (terms_of p) (IsOpenAt o) (FailsBy o) (LandsBy o) put.commit.version j put.text
       (λ rest. EndLanded p winners put.commit.version put.now o j rest) (EndAfter p winners o) es
   RestAt p winners j (stage.ReadBack put) es o =
-      AtReadBack bodies judges (terms_of p) (IsOpenEnd o) (HasFailed o) (HasLanded o) put.commit.version j put.text
+      AtReadBack bodies judges (terms_of p) (IsOpenAt o) (FailsBy o) (LandsBy o) put.commit.version j put.text
       (λ rest. EndLanded p winners put.commit.version put.now o j rest) (EndAfter p winners o) es
-  RestAt p winners j (stage.Winner c) es o = AtWinner bodies judges (terms_of p) (IsOpenEnd o) (HasFailed o) (HasLanded o) c.version j (EndAfter p winners o) es
+  RestAt p winners j (stage.Winner c) es o = AtWinner bodies judges (terms_of p) (IsOpenAt o) (FailsBy o) (LandsBy o) c.version j (EndAfter p winners o) es
   RestAt p winners j (stage.Landed version now) es o = EndLanded p winners version now o j es
-  RestAt p winners j (stage.Failed f) es o = HasFailed o j f es
+  RestAt p winners j (stage.Failed f) es o = FailsBy o j f es
 
   -- what the entries still to come have to be, and how they end, at a stage of its own
   abbrev pub RestBy : Attempts J C → Stage C → Entries → Ending (Lost J C) (Won J) → Type 0
@@ -112,16 +103,3 @@ module _ {J C : Type 0} (bodies : J → ℕ → Result (List ℕ) BodyFault → 
   -- what may come at the new stage may come after a call with this answer at the old one
   abbrev pub Leads : Attempts J C → Stage C → Call → Answer → Attempts J C → Stage C → Type 0
   Leads old s call answer new t = (tag : Tag) (es : Entries) (o : Ending (Lost J C) (Won J)) → RestBy new t es o → RestBy old s (record { tag = tag; call = call; answer = answer } ∷ es) o
-
-  -- from before to after an answer, or want of memory, after which nothing is called
-  abbrev pub Goes : Attempts J C → Call → Fed → Attempts J C → Type 0
-  Goes old call (fed.Answer answer) new = Leads old old.stage call answer new new.stage
-  Goes old call fed.NoMemory new = (es : Entries) (o : Ending (Lost J C) (Won J)) → RestOf new es o → (es ≡ []) × RestOf old es o
-
--- the attempts that handed this back ended so
-abbrev pub ResultEnds : {J C : Type 0} → J → Result Landed (AttemptFault C) → Entries → Ending (Lost J C) (Won J) → Type 0
-ResultEnds j (Ok l) es o = HasLanded o j l es
-ResultEnds j (Err f) es o = HasFailed o j f es
-
-abbrev pub EndsAs : {J C : Type 0} → Attempted J C → Entries → Ending (Lost J C) (Won J) → Type 0
-EndsAs a es o = ResultEnds a.judge a.result es o

@@ -3,24 +3,26 @@ use Rattle.std.specs.Prelude.{ℕ, suc, ◌+◌, List, Result, Ok, Err}
 use Rattle.row_base.specs.declared.memory.NoMemory.{NoMemory}
 use Rattle.call_phases.specs.Phases.{Entries}
 use Rattle.call_phases.specs.Ending.{Ending}
-use Rattle.committer.specs.Attempts.{InTime, Judged, AtCommitPut, Lost, Won, IsOpenEnd, HasFailed, HasLanded, AttemptsEnd}
+use Rattle.committer.specs.Attempts.{InTime, Judged, AtCommitPut, IsOpenAt, FailsBy, LandsBy, AttemptsEnd}
 use Rattle.committer.specs.Machine.{terms_of, call_at, EndAfter, EndLanded}
 use Rattle.committer.specs.declared.judge.BodyFault.{BodyFault}
 use Rattle.committer.specs.declared.judge.Verdict.{Verdict}
 use Rattle.committer.specs.declared.fault.AttemptFault.{AttemptFault}
 use Rattle.committer.specs.declared.fault.AttemptFault.TheVariants as fault
 use Rattle.committer.specs.declared.fault.Landed.{Landed}
+use Rattle.committer.specs.declared.fault.Lost.{Lost}
+use Rattle.committer.specs.declared.fault.Won.{Won}
 use Rattle.committer.specs.declared.stage.Stage.{Stage}
 use Rattle.committer.specs.declared.stage.Stage.TheVariants as stage
-use Rattle.committer.specs.declared.stage.Ahead.{Ahead}
+use Rattle.call_phases.specs.declared.phase.Ready.{Ready}
 use Rattle.committer.specs.declared.attempts.Attempts.{Attempts}
 
 -- a stage with its call made ready
-abbrev pub ahead_of : {C : Type 0} → Stage C → Ahead C
+abbrev pub ahead_of : {C : Type 0} → Stage C → Ready (Stage C)
 ahead_of s = record { stage = s; call = call_at s }
 
 -- what was made, or the end for want of memory
-abbrev pub or_no_memory : {C : Type 0} → Result (Ahead C) NoMemory → Ahead C
+abbrev pub or_no_memory : {C : Type 0} → Result (Ready (Stage C)) NoMemory → Ready (Stage C)
 or_no_memory (Ok ahead) = ahead
 or_no_memory (Err e) = ahead_of (stage.Failed fault.NoMemory)
 
@@ -41,16 +43,16 @@ module _ {J C : Type 0} (bodies : J → ℕ → Result (List ℕ) BodyFault → 
   -- the clock was read
   abbrev pub InTimeBy : Attempts J C → ℕ → Entries → Ending (Lost J C) (Won J) → Type 0
   InTimeBy a now es o =
-      InTime bodies judges (terms_of a.progress) (IsOpenEnd o) (HasFailed o) (HasLanded o) (a.progress.first + a.progress.lost) now a.judge
+      InTime bodies judges (terms_of a.progress) (IsOpenAt o) (FailsBy o) (LandsBy o) (a.progress.first + a.progress.lost) now a.judge
       (λ new rest. EndLanded a.progress a.winners.items (a.progress.first + a.progress.lost) now o new rest) (EndAfter bodies judges a.progress a.winners.items o) es
 
   -- the commit is put
   abbrev pub PutBy : Attempts J C → ℕ → List ℕ → Entries → Ending (Lost J C) (Won J) → Type 0
   PutBy a now text es o =
-      AtCommitPut bodies judges (terms_of a.progress) (IsOpenEnd o) (HasFailed o) (HasLanded o) (a.progress.first + a.progress.lost) a.judge text
+      AtCommitPut bodies judges (terms_of a.progress) (IsOpenAt o) (FailsBy o) (LandsBy o) (a.progress.first + a.progress.lost) a.judge text
       (λ rest. EndLanded a.progress a.winners.items (a.progress.first + a.progress.lost) now o a.judge rest) (EndAfter bodies judges a.progress a.winners.items o) es
 
   -- a winner is judged
   abbrev pub JudgedBy : Attempts J C → ℕ → List ℕ → Entries → Ending (Lost J C) (Won J) → Type 0
   JudgedBy a version winner es o =
-      Judged bodies judges (terms_of a.progress) (IsOpenEnd o) (HasFailed o) (HasLanded o) version a.judge winner (EndAfter bodies judges a.progress a.winners.items o winner) es
+      Judged bodies judges (terms_of a.progress) (IsOpenAt o) (FailsBy o) (LandsBy o) version a.judge winner (EndAfter bodies judges a.progress a.winners.items o winner) es

@@ -1,14 +1,16 @@
 //! The attempts of a commit, one call of the store after another.
 ghost use Rattle.std.specs.Prelude.{◌≡◌, ◌+◌, ◌*◌, ◌<◌, ◌≤◌, ◌^◌, [], IsSomeAnd, IfSome, Option};
-ghost use Rattle.edge_api.specs.Actor.{IsFit};
 ghost use Rattle.call_phases.specs.Phases.{Entries};
 ghost use Rattle.call_phases.specs.Ending.{Ending};
-ghost use Rattle.committer.specs.Attempts.{Terms, Lost, Won, AttemptsEnd};
-ghost use Rattle.committer.specs.Machine.{first_after, call_of, left_of, IsReady, IsEnded, called, is_put, RestOf, Goes, EndsAs};
+ghost use Rattle.committer.specs.Attempts.{Terms, AttemptsEnd};
+ghost use Rattle.committer.specs.declared.fault.Lost.{Lost as ALost};
+ghost use Rattle.committer.specs.declared.fault.Won.{Won as AWon};
+ghost use Rattle.committer.specs.Machine.{first_after, call_of, left_of, IsReady, is_put, RestOf};
 
 use crate::progress::Progress;
 use crate::stage::{Stage, ended};
-use crate::{AttemptFault, Judge, Landed};
+use crate::{AttemptFault, Judge, Lost, Won};
+use call_phases::Phase;
 use edge_api::{Body, Call, Fed};
 use std::alloc::Global;
 use std::mem;
@@ -22,13 +24,6 @@ pub struct Attempts<J: Judge> {
     pub(crate) winners: Vec<Body>,
     stage: Stage<J::Clash>,
     call: Option<Call>,
-}
-
-/// What the attempts hand back.
-#[derive(Drop)]
-pub struct Attempted<J: Judge> {
-    pub judge: J,
-    pub result: Result<Landed, AttemptFault<J::Clash>>,
 }
 
 /// The version of the first attempt.
@@ -57,7 +52,7 @@ impl<J: Judge> Attempts<J> {
         requires some { 0 < limit }
         requires most { limit ≤ 1000000 }
         requires read { IfSome read (λ version. version < 2 ^ 20) }
-        ensures leads { (es : Entries) (o : Ending (Lost J J.Clash) (Won J)) → RestOf J.bodies J.judges result es o
+        ensures leads { (es : Entries) (o : Ending (ALost J J.Clash) (AWon J)) → RestOf J.bodies J.judges result es o
             → AttemptsEnd J.bodies J.judges (record { start = start; retention = retention; first = first_after read }) limit 0 [] judge es o }
         ensures ready { IsReady result }
         ensures left { left_of result ≤ 3 * limit }
@@ -86,30 +81,34 @@ impl<J: Judge> Attempts<J> {
         attempts
     }
 
-    /// The next call, or that the attempts have ended. It takes no memory.
-    pub fn next(&mut self) -> Option<Call>
-        requires { IsReady self.old }
-        ensures call { result ≡ call_of self.old }
-        ensures after { self.new ≡ called self.old }
-    {
-        self.call.take()
-    }
-
     /// Whether the next call is the put of a commit.
     pub fn at_put(&self) -> bool
         ensures { result ≡ is_put (call_of self.now) }
     {
         matches!(self.stage, Stage::Put(_))
     }
+}
 
-    /// Goes on with the answer to the call that was given last, or ends for want of memory.
-    pub fn feed(&mut self, input: Fed)
-        requires { IsSomeAnd (call_of self.old) (λ call. IsFit call input) }
-        ensures goes { IfSome (call_of self.old) (λ call. Goes J.bodies J.judges self.old call input self.new) }
-        ensures memory { input ≡ Fed.NoMemory → IsEnded self.new }
-        ensures ready { IsReady self.new }
-        ensures falls { left_of self.new < left_of self.old }
-    {
+impl<J: Judge> Phase for Attempts<J> {
+    type Done = Won<J>;
+
+    type Fault = Lost<J, J::Clash>;
+
+    ghost use Rattle.committer.specs.Machine.{IsReady, call_of, left_of, RestOf};
+
+    ghost ready = { IsReady };
+
+    ghost call = { call_of };
+
+    ghost left = { left_of };
+
+    ghost rest = { RestOf J.bodies J.judges };
+
+    fn next(&mut self) -> Option<Call> {
+        self.call.take()
+    }
+
+    fn feed(&mut self, input: Fed) {
         let stage = mem::replace(&mut self.stage, Stage::Failed(AttemptFault::NoMemory));
         self.call = None;
         if let Fed::Answer(answer) = input {
@@ -119,11 +118,7 @@ impl<J: Judge> Attempts<J> {
         }
     }
 
-    /// How the attempts ended, with the judge.
-    pub fn finish(self) -> Attempted<J>
-        requires { IsEnded self }
-        ensures { (es : Entries) (o : Ending (Lost J J.Clash) (Won J)) → EndsAs result es o → RestOf J.bodies J.judges self es o }
-    {
+    fn finish(self) -> Result<Won<J>, Lost<J, J::Clash>> {
         let Attempts {
             judge,
             progress,
@@ -131,7 +126,9 @@ impl<J: Judge> Attempts<J> {
             stage,
             ..
         } = self;
-        let result = ended(stage, progress.lost + 1, winners);
-        Attempted { judge, result }
+        match ended(stage, progress.lost + 1, winners) {
+            Ok(landed) => Ok(Won { judge, landed }),
+            Err(fault) => Err(Lost { judge, fault }),
+        }
     }
 }

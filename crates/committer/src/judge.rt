@@ -22,7 +22,7 @@ pub enum Verdict<C> {
 }
 
 /// Makes the text of a commit, and checks the commits that were there first.
-pub trait Judge {
+pub trait Judge: Drop {
     ghost use Rattle.committer.specs.declared.judge.BodyFault.{BodyFault};
     ghost use Rattle.committer.specs.declared.judge.Verdict.{Verdict};
 

@@ -1,7 +1,6 @@
 //! How far the attempts of a commit have come.
 ghost use Rattle.std.specs.Prelude.{◌≡◌, ◌+◌, ◌-◌, ◌<◌, ◌≤◌, ◌^◌, IfOk};
 ghost use Rattle.table_rules.specs.Names.{commit_text};
-ghost use Rattle.committer.specs.Names.{called_now};
 
 use crate::AttemptFault;
 use edge_api::{CallKind, Called, Name};
@@ -66,22 +65,5 @@ impl Commit {
         let name = self.name;
         let call = Called { kind, name };
         AttemptFault::Fault { call }
-    }
-}
-
-/// A reading of the clock.
-#[derive(Drop)]
-pub struct Reading {
-    pub called: Called,
-    pub ghost is: { called ≡ called_now },
-}
-
-impl Reading {
-    /// A reading of the clock. The error is want of memory.
-    pub fn make(alloc: Global) -> Result<Reading, NoMemory> {
-        let name = Name::make(alloc, "")?;
-        let kind = CallKind::Now;
-        let called = Called { kind, name };
-        Ok(Reading { called })
     }
 }

@@ -3,8 +3,9 @@ ghost use Rattle.std.specs.Prelude.{◌≡◌, IfOk, Option};
 ghost use Rattle.committer.specs.Machine.{call_at};
 ghost use Rattle.committer.specs.Steps.{ahead_of, or_no_memory, result_of};
 
-use crate::progress::{Commit, Reading};
+use crate::progress::Commit;
 use crate::{AttemptFault, Bodies, Landed};
+use call_phases::{Reading, Ready};
 use edge_api::{Body, Call};
 use row_base::NoMemory;
 use std::alloc::Global;
@@ -19,7 +20,12 @@ pub struct Put {
 
 impl Put {
     /// The put of a version's commit with this text, and its call. The error is want of memory.
-    pub fn make(alloc: Global, version: u64, text: Body, now: u64) -> Result<(Put, Call), NoMemory>
+    pub fn make(
+        alloc: Global,
+        version: u64,
+        text: Body,
+        now: u64,
+    ) -> Result<(Put, Call), NoMemory>
         ensures version { IfOk result (λ made. made.0.commit.version ≡ version) }
         ensures text { IfOk result (λ made. made.0.text ≡ text) }
         ensures now { IfOk result (λ made. made.0.now ≡ now) }
@@ -48,59 +54,50 @@ pub enum Stage<C> {
     Failed(AttemptFault<C>),
 }
 
-/// A stage with its call made ready.
-#[derive(Drop)]
-pub struct Ahead<C> {
-    pub stage: Stage<C>,
-    pub call: Option<Call>,
-}
-
-impl<C: Drop> Ahead<C> {
+impl<C: Drop> Stage<C> {
     /// Nothing is called any more.
-    pub fn failed(fault: AttemptFault<C>) -> Ahead<C>
+    pub fn failed(fault: AttemptFault<C>) -> Ready<Stage<C>>
         ensures { result ≡ ahead_of (Stage.Failed fault) }
     {
-        let stage = Stage::Failed(fault);
-        Ahead { stage, call: None }
+        Ready::no_call(Stage::Failed(fault))
     }
 
     /// The commit landed.
-    pub fn landed(put: Put) -> Ahead<C>
+    pub fn landed(put: Put) -> Ready<Stage<C>>
         ensures { result ≡ ahead_of (Stage.Landed put.commit.version put.now) }
     {
         let version = put.commit.version;
-        let stage = Stage::Landed {
+        Ready::no_call(Stage::Landed {
             version,
             now: put.now,
-        };
-        Ahead { stage, call: None }
+        })
     }
 
     /// The commit is read back next. The error is want of memory.
-    pub fn read_back(put: Put) -> Result<Ahead<C>, NoMemory>
+    pub fn read_back(put: Put) -> Result<Ready<Stage<C>>, NoMemory>
         ensures { IfOk result (λ a. a ≡ ahead_of (Stage.ReadBack put)) }
     {
         let call = Some(Call::Get(put.commit.name.copy()?));
         let stage = Stage::ReadBack(put);
-        Ok(Ahead { stage, call })
+        Ok(Ready { stage, call })
     }
 
     /// The commit that won is got next. The error is want of memory.
-    pub fn winner(commit: Commit) -> Result<Ahead<C>, NoMemory>
+    pub fn winner(commit: Commit) -> Result<Ready<Stage<C>>, NoMemory>
         ensures { IfOk result (λ a. a ≡ ahead_of (Stage.Winner commit)) }
     {
         let call = Some(Call::Get(commit.name.copy()?));
         let stage = Stage::Winner(commit);
-        Ok(Ahead { stage, call })
+        Ok(Ready { stage, call })
     }
 
     /// What was made, or the end for want of memory.
-    pub fn or_no_memory(made: Result<Ahead<C>, NoMemory>) -> Ahead<C>
+    pub fn or_no_memory(made: Result<Ready<Stage<C>>, NoMemory>) -> Ready<Stage<C>>
         ensures { result ≡ or_no_memory made }
     {
         match made {
             Ok(ahead) => ahead,
-            Err(_) => Ahead::failed(AttemptFault::NoMemory),
+            Err(_) => Stage::failed(AttemptFault::NoMemory),
         }
     }
 }

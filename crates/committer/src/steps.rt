@@ -3,50 +3,52 @@ ghost use Rattle.std.specs.Prelude.{◌≡◌, ◌+◌, ◌*◌, ◌<◌, ◌≤
 ghost use Rattle.edge_api.specs.Journal.{IsOfKind};
 ghost use Rattle.call_phases.specs.Phases.{Entries};
 ghost use Rattle.call_phases.specs.Ending.{Ending};
-ghost use Rattle.committer.specs.Attempts.{Lost, Won};
+ghost use Rattle.committer.specs.declared.fault.Lost.{Lost};
+ghost use Rattle.committer.specs.declared.fault.Won.{Won};
 ghost use Rattle.committer.specs.Machine.{call_at, left_at, EndAfter, RestBy, Leads};
 ghost use Rattle.committer.specs.Steps.{ClockBy, InTimeBy, PutBy, JudgedBy};
 
-use crate::progress::{Commit, Reading};
-use crate::stage::{Ahead, Put, Stage};
+use crate::progress::Commit;
+use crate::stage::{Put, Stage};
 use crate::{AttemptFault, Attempts, BodyFault, Judge, Verdict};
+use call_phases::{Reading, Ready};
 use edge_api::{Answer, Body, Call, CallKind};
 
 impl<J: Judge> Attempts<J> {
     ghost use Rattle.edge_api.specs.declared.call.Call.TheVariants as call;
 
     /// The clock is read for an attempt.
-    pub(crate) fn at_clock(&self) -> Ahead<J::Clash>
+    pub(crate) fn at_clock(&self) -> Ready<Stage<J::Clash>>
         ensures ready { result.call ≡ call_at result.stage }
         ensures falls { left_at self.now.progress result.stage ≤ 3 * self.now.progress.left + 3 }
         ensures leads { (es : Entries) (o : Ending (Lost J J.Clash) (Won J)) → RestBy J.bodies J.judges self.now result.stage es o → ClockBy J.bodies J.judges self.now es o }
     {
         match Reading::make(self.alloc) {
-            Ok(reading) => Ahead {
+            Ok(reading) => Ready {
                 stage: Stage::Clock(reading),
                 call: Some(Call::Now),
             },
-            Err(_) => Ahead::failed(AttemptFault::NoMemory),
+            Err(_) => Stage::failed(AttemptFault::NoMemory),
         }
     }
 
     /// The commit is put with this text.
-    fn at_put_of(&self, now: u64, text: Body) -> Ahead<J::Clash>
+    fn at_put_of(&self, now: u64, text: Body) -> Ready<Stage<J::Clash>>
         ensures ready { result.call ≡ call_at result.stage }
         ensures falls { left_at self.now.progress result.stage ≤ 3 * self.now.progress.left + 2 }
         ensures leads { (es : Entries) (o : Ending (Lost J J.Clash) (Won J)) → RestBy J.bodies J.judges self.now result.stage es o → PutBy J.bodies J.judges self.now now text es o }
     {
         match Put::make(self.alloc, self.progress.version(), text, now) {
-            Ok((put, call)) => Ahead {
+            Ok((put, call)) => Ready {
                 stage: Stage::Put(put),
                 call: Some(call),
             },
-            Err(_) => Ahead::failed(AttemptFault::NoMemory),
+            Err(_) => Stage::failed(AttemptFault::NoMemory),
         }
     }
 
     /// The attempt that is made was lost to this winner: the next one may come.
-    fn lost_to(&mut self, winner: Body) -> Ahead<J::Clash>
+    fn lost_to(&mut self, winner: Body) -> Ready<Stage<J::Clash>>
         ensures ready { result.call ≡ call_at result.stage }
         ensures falls { left_at self.new.progress result.stage < 3 * self.old.progress.left + 1 }
         ensures leads { (es : Entries) (o : Ending (Lost J J.Clash) (Won J)) → RestBy J.bodies J.judges self.new result.stage es o
@@ -54,18 +56,18 @@ impl<J: Judge> Attempts<J> {
     {
         if self.progress.left == 0 {
             let lost = self.progress.lost + 1;
-            return Ahead::failed(AttemptFault::TooManyAttempts { lost });
+            return Stage::failed(AttemptFault::TooManyAttempts { lost });
         }
         self.progress.left -= 1;
         self.progress.lost += 1;
         let Ok(()) = self.winners.push(winner) else {
-            return Ahead::failed(AttemptFault::NoMemory);
+            return Stage::failed(AttemptFault::NoMemory);
         };
         self.at_clock()
     }
 
     /// After a reading of the clock the commit is put, unless it comes too late.
-    fn attempt_at(&mut self, now: u64) -> Ahead<J::Clash>
+    fn attempt_at(&mut self, now: u64) -> Ready<Stage<J::Clash>>
         requires { now ≤ 2 ^ 61 }
         ensures ready { result.call ≡ call_at result.stage }
         ensures falls { left_at self.new.progress result.stage < 3 * self.old.progress.left + 3 }
@@ -73,17 +75,17 @@ impl<J: Judge> Attempts<J> {
     {
         if self.progress.outlasts(now) {
             let start = self.progress.start;
-            return Ahead::failed(AttemptFault::Outlasted { start, now });
+            return Stage::failed(AttemptFault::Outlasted { start, now });
         }
         match self.judge.body(now) {
             Ok(text) => self.at_put_of(now, text),
-            Err(BodyFault::NoMemory) => Ahead::failed(AttemptFault::NoMemory),
-            Err(BodyFault::TooLarge { bytes }) => Ahead::failed(AttemptFault::TooLarge { bytes }),
+            Err(BodyFault::NoMemory) => Stage::failed(AttemptFault::NoMemory),
+            Err(BodyFault::TooLarge { bytes }) => Stage::failed(AttemptFault::TooLarge { bytes }),
         }
     }
 
     /// The commit that won this version is judged.
-    fn judged(&mut self, winner: u64, body: Body) -> Ahead<J::Clash>
+    fn judged(&mut self, winner: u64, body: Body) -> Ready<Stage<J::Clash>>
         ensures ready { result.call ≡ call_at result.stage }
         ensures falls { left_at self.new.progress result.stage < 3 * self.old.progress.left + 1 }
         ensures leads { (es : Entries) (o : Ending (Lost J J.Clash) (Won J)) → RestBy J.bodies J.judges self.new result.stage es o
@@ -91,12 +93,12 @@ impl<J: Judge> Attempts<J> {
     {
         match self.judge.judge(body) {
             Verdict::Clear(body) => self.lost_to(body),
-            Verdict::Clash(clash) => Ahead::failed(AttemptFault::Conflict { winner, clash }),
+            Verdict::Clash(clash) => Stage::failed(AttemptFault::Conflict { winner, clash }),
         }
     }
 
     /// What comes after a reading of the clock.
-    fn after_clock(&mut self, reading: Reading, answer: Answer) -> Ahead<J::Clash>
+    fn after_clock(&mut self, reading: Reading, answer: Answer) -> Ready<Stage<J::Clash>>
         requires { IsOfKind call.Now answer }
         ensures ready { result.call ≡ call_at result.stage }
         ensures falls { left_at self.new.progress result.stage < 3 * self.old.progress.left + 3 }
@@ -104,28 +106,28 @@ impl<J: Judge> Attempts<J> {
     {
         match answer {
             Answer::Time(now) => self.attempt_at(now),
-            _ => Ahead::failed(AttemptFault::Fault {
+            _ => Stage::failed(AttemptFault::Fault {
                 call: reading.called,
             }),
         }
     }
 
     /// What comes after a put of the commit.
-    fn after_put(&mut self, put: Put, answer: Answer) -> Ahead<J::Clash>
+    fn after_put(&mut self, put: Put, answer: Answer) -> Ready<Stage<J::Clash>>
         requires { IsOfKind (call.PutNew put.commit.name put.text) answer }
         ensures ready { result.call ≡ call_at result.stage }
         ensures falls { left_at self.new.progress result.stage < 3 * self.old.progress.left + 2 }
         ensures leads { Leads J.bodies J.judges self.old (Stage.Put put) (call.PutNew put.commit.name put.text) answer self.new result.stage }
     {
         match answer {
-            Answer::Stored => Ahead::landed(put),
-            Answer::Taken => Ahead::or_no_memory(Ahead::winner(put.commit)),
-            _ => Ahead::or_no_memory(Ahead::read_back(put)),
+            Answer::Stored => Stage::landed(put),
+            Answer::Taken => Stage::or_no_memory(Stage::winner(put.commit)),
+            _ => Stage::or_no_memory(Stage::read_back(put)),
         }
     }
 
     /// What comes after the commit is read back.
-    fn after_read_back(&mut self, put: Put, answer: Answer) -> Ahead<J::Clash>
+    fn after_read_back(&mut self, put: Put, answer: Answer) -> Ready<Stage<J::Clash>>
         requires { IsOfKind (call.Get put.commit.name) answer }
         ensures ready { result.call ≡ call_at result.stage }
         ensures falls { left_at self.new.progress result.stage < 3 * self.old.progress.left + 1 }
@@ -134,20 +136,20 @@ impl<J: Judge> Attempts<J> {
         match answer {
             Answer::Body(found) => {
                 if found.as_bytes() == put.text.as_bytes() {
-                    Ahead::landed(put)
+                    Stage::landed(put)
                 } else {
                     self.judged(put.commit.version, found)
                 }
             }
-            Answer::Missing => Ahead::failed(put.commit.faulted(CallKind::PutNew)),
-            _ => Ahead::failed(AttemptFault::OutcomeUnknown {
+            Answer::Missing => Stage::failed(put.commit.faulted(CallKind::PutNew)),
+            _ => Stage::failed(AttemptFault::OutcomeUnknown {
                 version: put.commit.version,
             }),
         }
     }
 
     /// What comes after the commit that won is got.
-    fn after_winner(&mut self, commit: Commit, answer: Answer) -> Ahead<J::Clash>
+    fn after_winner(&mut self, commit: Commit, answer: Answer) -> Ready<Stage<J::Clash>>
         requires { IsOfKind (call.Get commit.name) answer }
         ensures ready { result.call ≡ call_at result.stage }
         ensures falls { left_at self.new.progress result.stage < 3 * self.old.progress.left + 1 }
@@ -155,13 +157,13 @@ impl<J: Judge> Attempts<J> {
     {
         match answer {
             Answer::Body(winner) => self.judged(commit.version, winner),
-            Answer::Missing => Ahead::failed(AttemptFault::LogGone { name: commit.name }),
-            _ => Ahead::failed(commit.faulted(CallKind::Get)),
+            Answer::Missing => Stage::failed(AttemptFault::LogGone { name: commit.name }),
+            _ => Stage::failed(commit.faulted(CallKind::Get)),
         }
     }
 
     /// What comes after the call of a stage.
-    pub(crate) fn after(&mut self, stage: Stage<J::Clash>, answer: Answer) -> Ahead<J::Clash>
+    pub(crate) fn after(&mut self, stage: Stage<J::Clash>, answer: Answer) -> Ready<Stage<J::Clash>>
         requires { IsSomeAnd (call_at stage) (λ call. IsOfKind call answer) }
         ensures ready { result.call ≡ call_at result.stage }
         ensures falls { left_at self.new.progress result.stage < left_at self.old.progress stage }

@@ -2,7 +2,7 @@
 use Rattle.std.proofs.Common.{◌≡◌, ℕ, ◌+◌, Bool, true, false, List, [], ◌∷◌, refl, sym, ◌∙◌, ap, arith}
 use Rattle.std.specs.Prelude.{Option, Some, None, max, if◌then◌else◌}
 use Rattle.edge_api.specs.declared.call.Listed.{Listed}
-use Rattle.txn_machine.specs.Phases.{is_version, is_listed, commit_version, later, newest}
+use Rattle.statement_calls.specs.Listing.{is_version, is_listed, commit_version, later, newest}
 
 -- a mark that is set by the first of the names
 pub set_mark : (old new first rest : Bool) → new ≡ (if first then true else old) → (if new then true else rest) ≡ (if old then true else (if first then true else rest))

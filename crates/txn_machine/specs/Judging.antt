@@ -1,21 +1,16 @@
--- What a statement says of its commit and of the commits that won over it.
-use Rattle.std.specs.Prelude.{◌≡◌, ℕ, Bool, if◌then◌else◌, List, Result}
+-- The judge of a statement's commit, told of the plan that it stands for.
+use Rattle.std.specs.Prelude.{ℕ, List, Result}
 use Rattle.op_types.specs.declared.refusal.Clash.{Clash}
-use Rattle.op_types.specs.declared.refusal.Clash.TheVariants as clash
 use Rattle.committer.specs.declared.judge.BodyFault.{BodyFault}
 use Rattle.committer.specs.declared.judge.Verdict.{Verdict}
-use Rattle.committer.specs.declared.judge.Verdict.TheVariants as verdict
-use Rattle.committer.specs.Attempts.{OnBody}
+use Rattle.statement_calls.specs.Judging.{CommitPlan, Bodies, Judges}
 use Rattle.txn_machine.specs.declared.judge.CommitJudge.{CommitJudge}
 
--- a judge makes the text that it holds, and stays as it is
-abbrev pub Bodies : CommitJudge → ℕ → Result (List ℕ) BodyFault → CommitJudge → Type 0
-Bodies j now made new = (new ≡ j) × OnBody made (Unit {0}) (λ bytes. ⊥) (λ text. text ≡ j.text)
+abbrev pub plan_of : CommitJudge → CommitPlan
+plan_of j = record { text = j.text; makes_table = j.makes_table }
 
--- a table's making clashes with every winner, and an append with none
-abbrev pub verdict_of : CommitJudge → List ℕ → Verdict Clash
-verdict_of j winner = if j.makes_table then verdict.Clash clash.Protocol else verdict.Clear winner
+abbrev pub Makes : CommitJudge → ℕ → Result (List ℕ) BodyFault → CommitJudge → Type 0
+Makes j now made new = Bodies (plan_of j) now made (plan_of new)
 
--- a judge says its verdict, and stays as it is
-abbrev pub Judges : CommitJudge → List ℕ → Verdict Clash → CommitJudge → Type 0
-Judges j winner v new = (new ≡ j) × (v ≡ verdict_of j winner)
+abbrev pub Says : CommitJudge → List ℕ → Verdict Clash → CommitJudge → Type 0
+Says j winner v new = Judges (plan_of j) winner v (plan_of new)

@@ -1,9 +1,7 @@
-pub mod Texts
 pub mod Reading
 pub mod Judging
-pub mod Phases
 pub mod Listing
-pub mod Answered
+pub mod Readers
 pub mod Machine
 pub mod Place
 pub mod Txn

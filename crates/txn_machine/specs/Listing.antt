@@ -2,7 +2,7 @@
 use Rattle.std.specs.Prelude.{◌≡◌, ◌<◌, ℕ, ◌+◌, Bool, true, false, if◌then◌else◌, List, length, slice_index_or}
 use Rattle.std.specs.declared.option.Option.{Option}
 use Rattle.edge_api.specs.declared.call.Listed.{Listed}
-use Rattle.txn_machine.specs.Phases.{is_version, is_listed}
+use Rattle.statement_calls.specs.Listing.{is_version, is_listed}
 
 -- the mark of a version, counted from the first on
 abbrev pub mark_at : List Bool → ℕ → Bool

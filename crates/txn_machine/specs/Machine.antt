@@ -1,105 +1,119 @@
--- Where a statement stands between two calls, and what is still to come.
-use Rattle.std.specs.Prelude.{◌≡◌, ◌⊎◌, ℕ, suc, ◌+◌, ◌*◌, length, Bool, true, false, List, [], ◌∷◌, ◌++◌, Option, Some, None, Result, Ok, Err}
-use Rattle.row_base.specs.declared.memory.NoMemory.{NoMemory}
-use Rattle.edge_api.specs.declared.call.Tag.{Tag}
+-- Where a statement stands: one phase, and what follows it.
+use Rattle.std.specs.Prelude.{◌≡◌, ℕ, ◌+◌, suc, List, [], Option, Some, None, Bool, true, false, is_some}
 use Rattle.edge_api.specs.declared.call.Call.{Call}
-use Rattle.edge_api.specs.declared.call.Call.TheVariants.{Get, PutNew, List as ListNames, Now}
-use Rattle.edge_api.specs.declared.call.Answer.{Answer}
-use Rattle.edge_api.specs.declared.actor.Fed.{Fed}
-use Rattle.edge_api.specs.declared.actor.Fed.TheVariants as fed
-use Rattle.op_types.specs.declared.refusal.Refusal.TheVariants as refusal
+use Rattle.edge_api.specs.declared.call.Listed.{Listed}
+use Rattle.op_types.specs.declared.refusal.ObjectFault.{ObjectFault}
 use Rattle.op_types.specs.declared.refusal.Clash.{Clash}
 use Rattle.op_types.specs.declared.reply.Reply.{Reply}
-use Rattle.op_types.specs.declared.reply.Reply.TheVariants.{Created, Refused}
-use Rattle.table_rules.specs.Names.{log_prefix, commit_text}
+use Rattle.op_types.specs.declared.reply.Reply.TheVariants.{Created}
 use Rattle.call_phases.specs.Phases.{Entries}
-use Rattle.call_phases.specs.Ending.{Ending, ThenBy}
-use Rattle.committer.specs.Attempts.{Lost, Won}
-use Rattle.committer.specs.declared.fault.AttemptFault.{AttemptFault}
-use Rattle.committer.specs.declared.fault.Landed.{Landed}
+use Rattle.call_phases.specs.Clock as clock
+use Rattle.call_phases.specs.List as list
+use Rattle.call_phases.specs.GetsAt as gets
+use Rattle.call_phases.specs.Puts as puts
+use Rattle.call_phases.specs.Step.{Steps}
+use Rattle.call_phases.specs.declared.fault.CallFault.{CallFault}
+use Rattle.call_phases.specs.declared.gets.GetFault.{GetFault}
+use Rattle.call_phases.specs.declared.puts.PutFault.{PutFault}
 use Rattle.committer.specs.Machine as attempts
+use Rattle.committer.specs.declared.fault.Landed.{Landed}
+use Rattle.committer.specs.declared.fault.Lost.{Lost}
+use Rattle.committer.specs.declared.fault.Won.{Won}
+use Rattle.statement_calls.specs.declared.finish.Finish.{Finish}
+use Rattle.statement_calls.specs.declared.finish.Kept.{Kept}
+use Rattle.statement_calls.specs.Bounds.{most_after_clock, most_after_list, most_after_load, most_attempts}
+use Rattle.statement_calls.specs.Outcome.{refused, refusal_of_call, refusal_of_load, refusal_of_scan, refusal_of_put, refusal_of_attempt, Replies}
+use Rattle.statement_calls.specs.Answered.{committed, AtCommit, AfterScan, AfterLoad, AfterList, AfterClock}
+use Rattle.txn_machine.specs.declared.commits.Commits.{Commits}
+use Rattle.txn_machine.specs.declared.files.Files.{Files}
 use Rattle.txn_machine.specs.declared.judge.CommitJudge.{CommitJudge}
-use Rattle.txn_machine.specs.declared.stage.Plan.{Plan}
+use Rattle.txn_machine.specs.declared.machine.ClockStep.{ClockStep}
+use Rattle.txn_machine.specs.declared.machine.ListStep.{ListStep}
+use Rattle.txn_machine.specs.declared.machine.LoadStep.{LoadStep}
+use Rattle.txn_machine.specs.declared.select.ScanStep.{ScanStep}
+use Rattle.txn_machine.specs.declared.insert.DataStep.{DataStep}
+use Rattle.txn_machine.specs.declared.commit.CommitStep.{CommitStep}
 use Rattle.txn_machine.specs.declared.stage.Stage.{Stage}
 use Rattle.txn_machine.specs.declared.stage.Stage.TheVariants as stage
-use Rattle.txn_machine.specs.declared.stage.Ahead.{Ahead}
-use Rattle.txn_machine.specs.declared.stage.Attempting.{Attempting}
-use Rattle.txn_machine.specs.Judging.{Bodies, Judges}
-use Rattle.txn_machine.specs.Phases.{IsOpen, Ends, Replies, called, AtLoad, AtFiles}
-use Rattle.txn_machine.specs.Answered.{refusal_of, AtCommit, committed, Selected, AfterLoad, AtLog, AtData, Answered}
+use Rattle.txn_machine.specs.Judging.{Makes, Says}
+use Rattle.txn_machine.specs.Readers.{files_of, kept_of, wanted_commit, commits_left_of, commits_after, wanted_file, files_left_of, files_after}
+
+-- the outcome after a fault of a phase, by what is kept
+abbrev pub ByCall : Option Kept → Option Finish → CallFault → Type 0
+ByCall kept out f = out ≡ Some (refused kept (refusal_of_call f))
+
+abbrev pub ByLoad : Option Kept → Option Finish → GetFault ObjectFault → Type 0
+ByLoad kept out f = out ≡ Some (refused kept (refusal_of_load f))
+
+abbrev pub ByScan : Option Kept → Option Finish → GetFault ObjectFault → Type 0
+ByScan kept out f = out ≡ Some (refused kept (refusal_of_scan f))
+
+abbrev pub ByPut : Option Kept → Option Finish → PutFault → Type 0
+ByPut kept out f = out ≡ Some (refused kept (refusal_of_put f))
+
+abbrev pub ByAttempt : Option Kept → Option Finish → Lost CommitJudge Clash → Type 0
+ByAttempt kept out l = out ≡ Some (refused kept (refusal_of_attempt l.fault))
 
 -- the reply once the commit has landed, by the version that was read
 abbrev pub landed_after : Option ℕ → Landed → Reply
 landed_after None l = Created
 landed_after (Some read) l = committed read l
 
--- the reply of a statement whose attempts ended so
-abbrev pub reply_after : Option ℕ → Result Landed (AttemptFault Clash) → Reply
-reply_after read (Ok l) = landed_after read l
-reply_after read (Err f) = Refused (refusal_of f)
+-- what comes after the result of a phase
+abbrev pub NextClock : ClockStep → Option Finish → ℕ → Entries → Type 0
+NextClock s out start es = AfterClock s.plan.tag s.plan.limit out s.statement s.kept start es
 
--- what follows the attempts, by how they ended
-abbrev pub AfterAttempts : Option ℕ → Option Reply → Ending (Lost CommitJudge Clash) (Won CommitJudge) → Type 0
-AfterAttempts read reply o = ThenBy (IsOpen reply) (λ l. Ends reply (refusal_of l.fault) []) (λ w rest. Replies reply (landed_after read w.landed) rest) o
+abbrev pub NextList : ListStep → Option Finish → List Listed → Entries → Type 0
+NextList s out names es = AfterList s.plan.tag s.plan.limit out s.statement s.kept s.start names es
 
--- the attempts end in some way, and what follows is that
-abbrev pub AtAttempting : Attempting → Option Reply → Entries → Type 0
-AtAttempting a reply es = (o : Ending (Lost CommitJudge Clash) (Won CommitJudge)) × attempts.RestOf Bodies Judges a.attempts es o × AfterAttempts a.read reply o
+abbrev pub NextLoad : LoadStep → Option Finish → Commits → Entries → Type 0
+NextLoad s out c es = AfterLoad s.plan.tag s.plan.limit out s.statement s.start s.read.version (Some (kept_of s.spare s.read.version c.table)) c.table es
 
--- what the entries still to come have to be
-abbrev pub Rest : Plan → Stage → Entries → Option Reply → Type 0
-Rest p (stage.Start s) es reply = Answered p.tag p.limit None s.statement es reply
-Rest p (stage.Listing l) es reply = AtLog p.tag p.limit None l.statement l.start reply es
-Rest p (stage.Loading l) es reply = AtLoad reply (suc l.left) l.at l.state (AfterLoad p.tag p.limit l.statement l.start l.read reply) es
-Rest p (stage.Files f) es reply = AtFiles reply f.left.items f.got.items (Selected f.read f.live reply) es
-Rest p (stage.Data d) es reply = AtData p.limit d.path d.body d.start d.read reply es
-Rest p (stage.Attempting a) es reply = AtAttempting a reply es
-Rest p (stage.Done r) es reply = Replies reply r es
+abbrev pub NextScan : ScanStep → Option Finish → Files → Entries → Type 0
+NextScan s out f es = AfterScan s.plan.tag s.plan.limit out s.kept s.read s.live (files_of f) es
 
--- the call that gets the first of these files
-abbrev pub first_get : List (List ℕ) → Option Call
-first_get [] = None
-first_get (path ∷ paths) = Some (Get path)
+abbrev pub NextData : DataStep → Option Finish → Unit {0} → Entries → Type 0
+NextData s out u es = AtCommit s.plan.tag s.plan.limit out s.kept s.start (suc s.read.version) (record { text = s.text; makes_table = false }) (committed s.read.version) es
+
+abbrev pub NextCommit : CommitStep → Option Finish → Won CommitJudge → Entries → Type 0
+NextCommit s out w es = Replies out s.kept (landed_after s.read w.landed) es
 
 -- the next call
 abbrev pub call_of : Stage → Option Call
-call_of (stage.Start s) = Some Now
-call_of (stage.Listing l) = Some (ListNames log_prefix)
-call_of (stage.Loading l) = Some (Get (commit_text l.at))
-call_of (stage.Files f) = first_get f.left.items
-call_of (stage.Data d) = Some (PutNew d.path d.body)
-call_of (stage.Attempting a) = attempts.call_of a.attempts
-call_of (stage.Done r) = None
+call_of (stage.Clock s c) = clock.call_at c.stage
+call_of (stage.List s l) = list.call_at l.stage
+call_of (stage.Load s g) = gets.call_at g.stage
+call_of (stage.Scan s g) = gets.call_at g.stage
+call_of (stage.Data s p) = puts.call_at p.stage
+call_of (stage.Commit s a) = attempts.call_of a
+call_of (stage.Done f) = None
 
--- an answered call leads from old to new
-abbrev pub Follows : Plan → Stage → Call → Answer → Stage → Type 0
-Follows p old call answer new = (es : Entries) (reply : Option Reply) → Rest p new es reply
-    → Rest p old (record { tag = p.tag; call = call; answer = answer } ∷ es) reply
+-- how many answers may come: those of the phase, and those of the phases after it
+abbrev pub left_of : Stage → ℕ
+left_of (stage.Clock s c) = clock.left_at c.stage + most_after_clock
+left_of (stage.List s l) = list.left_at l.stage + most_after_list
+left_of (stage.Load s g) = gets.left_at commits_left_of g.stage + most_after_load
+left_of (stage.Scan s g) = gets.left_at files_left_of g.stage + 0
+left_of (stage.Data s p) = puts.left_at p.stage + most_attempts
+left_of (stage.Commit s a) = attempts.left_of a + 0
+left_of (stage.Done f) = 0
 
--- want of memory for the call ends the statement, which was open
-abbrev pub EndsOpen : Plan → Stage → Stage → Type 0
-EndsOpen p old new = (es : Entries) (reply : Option Reply) → Rest p new es reply → (es ≡ []) × Rest p old es reply
+-- a phase stands here only while it has a call to make
+abbrev pub is_settled : Stage → Bool
+is_settled (stage.Clock s c) = is_some (clock.call_at c.stage)
+is_settled (stage.List s l) = is_some (list.call_at l.stage)
+is_settled (stage.Load s g) = is_some (gets.call_at g.stage)
+is_settled (stage.Scan s g) = is_some (gets.call_at g.stage)
+is_settled (stage.Data s p) = is_some (puts.call_at p.stage)
+is_settled (stage.Commit s a) = is_some (attempts.call_of a)
+is_settled (stage.Done f) = true
 
--- an answer, or want of memory, leads from old to new
-abbrev pub FedTo : Plan → Stage → Call → Fed → Stage → Type 0
-FedTo p old call (fed.Answer answer) new = Follows p old call answer new
-FedTo p old call fed.NoMemory new = EndsOpen p old new
-
--- a number that falls with each answer, and is 0 exactly at the end
-abbrev pub left_of : Plan → Stage → ℕ
-left_of p (stage.Start s) = 3 * p.limit + 2097200
-left_of p (stage.Listing l) = 3 * p.limit + 2097199
-left_of p (stage.Loading l) = length l.state.files + 2 * l.left + 3 * p.limit + 12
-left_of p (stage.Files f) = length f.left.items
-left_of p (stage.Data d) = 3 * p.limit + 10
-left_of p (stage.Attempting a) = attempts.left_of a.attempts
-left_of p (stage.Done r) = 0
-
--- a stage with its call made ready
-abbrev pub ahead_of : Stage → Ahead
-ahead_of s = record { stage = s; call = call_of s }
-
--- what was made, or the end for want of memory
-abbrev pub or_no_memory : Result Ahead NoMemory → Ahead
-or_no_memory (Ok ahead) = ahead
-or_no_memory (Err e) = ahead_of (stage.Done (Refused refusal.NoMemory))
+-- what the entries still to come have to be, by the outcome
+abbrev pub Rest : Stage → Entries → Option Finish → Type 0
+Rest (stage.Clock s c) es out = Steps (clock.RestAt c.stage) (ByCall s.kept) (NextClock s) es out
+Rest (stage.List s l) es out = Steps (list.RestAt l.stage) (ByCall s.kept) (NextList s) es out
+Rest (stage.Load s g) es out = Steps (gets.RestAt wanted_commit commits_after g.stage) (ByLoad s.spare) (NextLoad s) es out
+Rest (stage.Scan s g) es out = Steps (gets.RestAt wanted_file files_after g.stage) (ByScan s.kept) (NextScan s) es out
+Rest (stage.Data s p) es out = Steps (puts.RestAt p.stage) (ByPut s.kept) (NextData s) es out
+Rest (stage.Commit s a) es out = Steps (attempts.RestOf Makes Says a) (ByAttempt s.kept) (NextCommit s) es out
+Rest (stage.Done f) es out = (es ≡ []) × (out ≡ Some f)

@@ -6,7 +6,7 @@ use Rattle.std.specs.Str.{bytes_eq}
 use Rattle.row_base.specs.declared.row.Datum.{Datum}
 use Rattle.snapshot_replay.specs.Table.{Commit, paths_of, snapshot_at}
 use Rattle.txn_machine.specs.declared.plain.DataFile.{DataFile}
-use Rattle.txn_machine.specs.Texts.{read_commit, read_file}
+use Rattle.statement_calls.specs.Texts.{read_commit, read_file}
 
 -- a commit that says nothing
 abbrev pub or_no_change : Option Commit → Commit

@@ -1,39 +1,42 @@
 -- A statement as an actor: what its calls and answers do to it.
-use Rattle.std.specs.Prelude.{◌≡◌, ◌==◌, Bool, true, false, ◌<◌, ◌≤◌, ℕ, List, [], ◌∷◌, Option, Some, None}
+use Rattle.std.specs.Prelude.{◌≡◌, ◌<◌, ◌∷◌, Option, Some, None, true}
 use Rattle.edge_api.specs.declared.call.Call.{Call}
 use Rattle.edge_api.specs.declared.call.Tag.{Tag}
 use Rattle.edge_api.specs.Actor.{Event, Made, Refused as Wanting}
 use Rattle.op_types.specs.declared.reply.Reply.{Reply}
 use Rattle.call_phases.specs.Phases.{Entries}
-use Rattle.txn_machine.specs.declared.stage.Plan.{Plan}
+use Rattle.call_phases.specs.Machine.{Stops, LeftBy}
+use Rattle.statement_calls.specs.declared.finish.Finish.{Finish}
 use Rattle.txn_machine.specs.declared.stage.Stage.{Stage}
+use Rattle.txn_machine.specs.declared.stage.Stage.TheVariants as stage
 use Rattle.txn_machine.specs.declared.txn.Txn.{Txn}
-use Rattle.txn_machine.specs.Machine.{Rest, EndsOpen, call_of, left_of}
+use Rattle.txn_machine.specs.Machine.{Rest, call_of, left_of, is_settled}
 
--- calls are left exactly where there is a next one
-abbrev pub LeftBy : ℕ → Option Call → Type 0
-LeftBy n None = n ≡ 0
-LeftBy n (Some call) = 0 < n
+-- the reply, where it is there
+abbrev pub reply_of : Stage → Option Reply
+reply_of (stage.Clock s c) = None
+reply_of (stage.List s l) = None
+reply_of (stage.Load s g) = None
+reply_of (stage.Scan s g) = None
+reply_of (stage.Data s p) = None
+reply_of (stage.Commit s a) = None
+reply_of (stage.Done f) = Some f.reply
 
--- calls are left at a stage exactly where there is a next one
-abbrev pub IsNothingLeft : Plan → Stage → Option Call → Type 0
-IsNothingLeft p s o = LeftBy (left_of p s) o
-
--- its next call is made ready
+-- its next call is made ready, and it stands at a phase only while there is one
 pub record IsReady (t : Txn) : Type 0 where
   pub call : t.pending ≡ call_of t.stage
-  pub left : IsNothingLeft t.plan t.stage t.pending
+  pub left : LeftBy (left_of t.stage) t.pending
+  pub settled : is_settled t.stage ≡ true
 
 -- it has asked and waits
 pub record Asks (old : Txn) (tag : Tag) (call : Call) (new : Txn) : Type 0 where
   pub is_call : call_of old.stage ≡ Some call
-  pub is_tag : tag ≡ old.plan.tag
-  pub plan : new.plan ≡ old.plan
+  pub is_tag : tag ≡ old.tag
+  pub same : new.tag ≡ old.tag
   pub stage : new.stage ≡ old.stage
-  pub some : 0 < left_of old.plan old.stage
+  pub some : 0 < left_of old.stage
 
 -- an event leads from one to the other; after want of memory nothing is called any more
 abbrev pub Goes : Txn → Event → Txn → Type 0
-Goes old (Made e) new = (new.plan ≡ old.plan) × (e.tag ≡ old.plan.tag)
-    × ((es : Entries) (reply : Option Reply) → Rest old.plan new.stage es reply → Rest old.plan old.stage (e ∷ es) reply)
-Goes old Wanting new = (new.plan ≡ old.plan) × (call_of new.stage ≡ None) × EndsOpen old.plan old.stage new.stage
+Goes old (Made e) new = (new.tag ≡ old.tag) × (e.tag ≡ old.tag) × ((es : Entries) (out : Option Finish) → Rest new.stage es out → Rest old.stage (e ∷ es) out)
+Goes old Wanting new = (new.tag ≡ old.tag) × (call_of new.stage ≡ None) × Stops Rest old.stage new.stage

@@ -16,11 +16,11 @@ pub struct CommitJudge {
 impl Judge for CommitJudge {
     type Clash = Clash;
 
-    ghost use Rattle.txn_machine.specs.Judging.{Bodies, Judges};
+    ghost use Rattle.txn_machine.specs.Judging.{Makes, Says};
 
-    ghost bodies = { Bodies };
+    ghost bodies = { Makes };
 
-    ghost judges = { Judges };
+    ghost judges = { Says };
 
     fn body(&mut self, _now: u64) -> Result<Body, BodyFault> {
         match self.text.copy() {

@@ -1,19 +1,31 @@
 //! One statement over a table: the calls that it makes, one after another, and its reply.
 #![tactic(auto)]
 
+mod commit;
 mod commits;
+mod files;
+mod insert;
 mod judge;
 mod listing;
 mod machine;
 mod place;
 mod plain;
+mod plan;
+mod resume;
+mod select;
 mod stage;
-mod statement;
+mod table;
 mod texts;
 mod txn;
 
+pub use commit::CommitStep;
+pub use commits::Commits;
+pub use files::{Files, GotFiles, Paths};
+pub use insert::DataStep;
 pub use judge::CommitJudge;
+pub use machine::{ClockStep, ListStep, LoadStep};
 pub use plain::{DataFile, replay};
-pub use stage::{Ahead, Attempting, DataPut, Files, Listing, Loading, Plan, Stage, Start};
-pub use statement::TableStatement;
-pub use txn::{Finish, Txn};
+pub use plan::{Plan, Supported};
+pub use select::ScanStep;
+pub use stage::Stage;
+pub use txn::Txn;

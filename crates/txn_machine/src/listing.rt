@@ -1,10 +1,14 @@
 //! What a listing of the log says of the commits.
 ghost use Rattle.std.specs.Prelude.{◌≡◌, ◌≤◌, ◌<◌, ◌+◌, ◌^◌, ℕ, suc, List, length, IfOk};
-ghost use Rattle.txn_machine.specs.Phases.{newest, missing, commit_version, later, is_listed};
+ghost use Rattle.statement_calls.specs.Listing.{newest, missing, commit_version, later, is_listed};
 ghost use Rattle.txn_machine.specs.Listing.{Marks, mark_at};
+ghost use Rattle.txn_machine.specs.Readers.{missing_for};
 
+use crate::Supported;
+use crate::commits::first_needed;
 use edge_api::{Listed, Name};
 use row_base::NoMemory;
+use statement_calls::Kept;
 use std::alloc::Global;
 use table_rules::{LogName, read_log_name};
 
@@ -98,14 +102,16 @@ fn missing_version(
     Ok(last_unmarked(&marks, first, listing))
 }
 
-/// The greatest version up to this one that isn't listed. The error is want of memory.
-pub fn missing_up_to(
+/// The greatest version that isn't listed, of those that a load of a version gets. The error is want of memory.
+pub fn missing_for(
     alloc: Global,
     listing: &[Listed],
-    version: u64,
+    kept: &Option<Kept>,
+    read: Supported,
 ) -> Result<Option<u64>, NoMemory>
-    requires { version < 2 ^ 20 }
-    ensures { IfOk result (λ gone. gone ≡ missing listing.now 0 (suc version)) }
+    ensures { IfOk result (λ gone. gone ≡ missing_for kept.now read.version listing.now) }
 {
-    missing_version(alloc, listing, 0, version as usize + 1)
+    let first = first_needed(kept, read);
+    let count = read.version + 1 - first;
+    missing_version(alloc, listing, first, count as usize)
 }

@@ -1,35 +1,30 @@
 //! Where the actor of a statement stands.
-ghost use Rattle.std.specs.Prelude.{◌≡◌, IsSome};
-ghost use Rattle.txn_machine.specs.Machine.{call_of};
-ghost use Rattle.txn_machine.specs.Place.{place_of};
+ghost use Rattle.std.specs.Prelude.{◌≡◌};
+ghost use Rattle.statement_calls.specs.Place.{place_of_call};
+ghost use Rattle.txn_machine.specs.Place.{is_first};
 
-use crate::stage::Stage;
-use edge_api::Stage as Place;
+use crate::Stage;
+use edge_api::{Call, Stage as Place};
+use table_rules::{LogName, read_log_name};
+
+/// Where an actor stands that makes this call next, within a statement.
+pub fn place_of_call(call: &Call) -> Place
+    ensures { result ≡ place_of_call call.now }
+{
+    match call {
+        Call::PutNew(name, _) => match read_log_name(name) {
+            LogName::Commit(_) => Place::Attempt,
+            _ => Place::Running,
+        },
+        _ => Place::Running,
+    }
+}
 
 impl Stage {
-    /// Where a statement stands that is still to make a call.
-    pub fn place(&self) -> Place
-        requires { IsSome (call_of self.now) }
-        ensures { result ≡ place_of self.now }
+    /// Whether it is the first one.
+    pub fn is_first(&self) -> bool
+        ensures { result ≡ is_first self.now }
     {
-        match self {
-            Stage::Start(_) => Place::Between,
-            Stage::Files(files) => {
-                if files.left.is_empty() {
-                    Place::Done
-                } else {
-                    Place::Running
-                }
-            }
-            Stage::Attempting(attempting) => {
-                if attempting.attempts.at_put() {
-                    Place::Attempt
-                } else {
-                    Place::Running
-                }
-            }
-            Stage::Done(_) => Place::Done,
-            _ => Place::Running,
-        }
+        matches!(self, Stage::Clock(..))
     }
 }

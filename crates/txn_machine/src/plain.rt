@@ -3,10 +3,11 @@ ghost use Rattle.std.specs.Prelude.{◌≡◌, IfOk, OnOk};
 ghost use Rattle.std.specs.List.{flat_map};
 ghost use Rattle.snapshot_replay.specs.Table.{applied, snapshot_at};
 ghost use Rattle.row_base.specs.Sorting.{Sorts};
-ghost use Rattle.txn_machine.specs.Texts.{read_commit, read_file};
+ghost use Rattle.statement_calls.specs.Texts.{read_commit, read_file};
 ghost use Rattle.txn_machine.specs.Plain.{or_no_change, commit_in, or_no_rows, rows_in, rows_at};
 
-use crate::texts::{Unread, apply_commit, rows_of_file};
+use crate::texts::{apply_commit, rows_of_file};
+use call_phases::Unread;
 use edge_api::{Body, Name};
 use row_base::{NoMemory, Rows, sorted};
 use snapshot_replay::State;

@@ -1,100 +1,113 @@
-//! Where a statement stands, with its next call made ready.
-ghost use Rattle.std.specs.Prelude.{◌≡◌, ◌≢◌, ◌+◌, ◌<◌, ◌≤◌, ◌^◌, ℕ, []};
-ghost use Rattle.table_rules.specs.Names.{log_prefix, commit_text};
+//! Where a statement stands: one phase, and what the statement still needs for what follows it.
+ghost use Rattle.std.specs.Prelude.{◌≡◌, ◌≤◌, true, None, Option, IfSome};
+ghost use Rattle.edge_api.specs.declared.actor.Stage.TheVariants as place;
+ghost use Rattle.call_phases.specs.Phases.{Entries};
+ghost use Rattle.call_phases.specs.Machine.{LeftBy};
+ghost use Rattle.statement_calls.specs.declared.finish.Finish.{Finish as AFinish};
+ghost use Rattle.statement_calls.specs.Bounds.{most_calls};
+ghost use Rattle.statement_calls.specs.Outcome.{refused};
+ghost use Rattle.statement_calls.specs.Answered.{Answered};
+ghost use Rattle.txn_machine.specs.Machine.{call_of, left_of, is_settled, Rest};
+ghost use Rattle.txn_machine.specs.Place.{place_of};
 
-use crate::{CommitJudge, TableStatement};
+use crate::resume::Resumes;
+use crate::{
+    ClockStep, CommitJudge, CommitStep, Commits, DataStep, Files, ListStep, LoadStep, Plan, ScanStep,
+};
+use call_phases::{Gets, ListNames, Phase, Puts, ReadClock, Ready, Stages, feed};
 use committer::Attempts;
-use edge_api::{Body, Call, Name, Tag};
-use op_types::{Reply, Statement};
-use row_base::ScannedFile;
-use snapshot_replay::State;
-use std::alloc::Global;
-use std::collections::VecDeque;
-
-/// What a statement is told: its tag, and how many attempts it may make.
-#[derive(Clone, Copy, Drop)]
-pub struct Plan {
-    pub alloc: Global,
-    pub tag: Tag,
-    pub limit: u32,
-    pub ghost some: { 0 < limit },
-    pub ghost few: { limit ≤ 1000000 },
-}
-
-/// The clock is read for the start. The empty name is that of the call.
-#[derive(Drop)]
-pub struct Start {
-    pub statement: Statement,
-    pub nameless: Name,
-    pub ghost empty: { nameless ≡ [] },
-}
-
-/// The log is listed.
-#[derive(Drop)]
-pub struct Listing {
-    pub statement: Statement,
-    pub start: u64,
-    pub prefix: Name,
-    pub ghost named: { prefix ≡ log_prefix },
-}
-
-/// A commit is got, and so many after it.
-#[derive(Drop)]
-pub struct Loading {
-    pub statement: TableStatement,
-    pub start: u64,
-    pub read: u64,
-    pub at: u64,
-    pub left: u64,
-    pub state: State,
-    pub name: Name,
-    pub ghost named: { name ≡ commit_text at },
-    pub ghost sum: { at + left ≡ read },
-    pub ghost bound: { read < 2 ^ 20 },
-}
-
-/// The first of these data files is got.
-#[derive(Drop)]
-pub struct Files {
-    pub read: u64,
-    pub live: u64,
-    pub left: VecDeque<Name>,
-    pub got: Vec<ScannedFile>,
-}
-
-/// A data file is put.
-#[derive(Drop)]
-pub struct DataPut {
-    pub start: u64,
-    pub read: u64,
-    pub path: Name,
-    pub body: Body,
-    pub ghost bound: { read < 2 ^ 20 },
-    pub ghost outside: { (version : ℕ) → path ≢ commit_text version },
-}
-
-/// The commit's attempts, with the version that was read; a table is made without one.
-#[derive(Drop)]
-pub struct Attempting {
-    pub read: Option<u64>,
-    pub attempts: Attempts<CommitJudge>,
-}
+use edge_api::Fed;
+use op_types::{Refusal, Reply, Statement};
+use statement_calls::{Finish, Kept};
 
 /// Where a statement stands.
 #[derive(Drop)]
 pub enum Stage {
-    Start(Start),
-    Listing(Listing),
-    Loading(Loading),
-    Files(Files),
-    Data(DataPut),
-    Attempting(Attempting),
-    Done(Reply),
+    Clock(ClockStep, ReadClock),
+    List(ListStep, ListNames),
+    Load(LoadStep, Gets<Commits>),
+    Scan(ScanStep, Gets<Files>),
+    Data(DataStep, Puts),
+    Commit(CommitStep, Attempts<CommitJudge>),
+    Done(Finish),
 }
 
-/// A stage with its call made ready.
-#[derive(Drop)]
-pub struct Ahead {
-    pub stage: Stage,
-    pub call: Option<Call>,
+impl Stages for Stage {
+    type Finish = Finish;
+
+    ghost use Rattle.txn_machine.specs.Machine.{call_of, left_of, is_settled, Rest};
+
+    ghost call_of = { call_of };
+
+    ghost left_of = { left_of };
+
+    ghost is_settled = { is_settled };
+
+    ghost may = { Rest };
+}
+
+impl Resumes for Stage {
+    fn idle() -> Stage {
+        Stage::Done(Finish {
+            reply: Reply::Killed,
+            kept: None,
+        })
+    }
+
+    fn fed(self, input: Fed) -> Ready<Stage> {
+        match self {
+            Stage::Clock(step, clock) => feed(step, clock, input),
+            Stage::List(step, list) => feed(step, list, input),
+            Stage::Load(step, load) => feed(step, load, input),
+            Stage::Scan(step, scan) => feed(step, scan, input),
+            Stage::Data(step, puts) => feed(step, puts, input),
+            Stage::Commit(step, attempts) => feed(step, attempts, input),
+            Stage::Done(_) => unreachable!(),
+        }
+    }
+}
+
+impl Stage {
+    /// The reply is there.
+    pub fn done(finish: Finish) -> Ready<Stage>
+        ensures { result ≡ record { stage = Stage.Done finish; call = None } }
+    {
+        Ready::no_call(Stage::Done(finish))
+    }
+
+    /// The statement is refused.
+    pub fn refused(kept: Option<Kept>, refusal: Refusal) -> Ready<Stage>
+        ensures { result ≡ record { stage = Stage.Done (refused kept refusal); call = None } }
+    {
+        Stage::done(Finish {
+            reply: Reply::Refused(refusal),
+            kept,
+        })
+    }
+
+    /// A statement begins: the clock is read.
+    pub fn begin(plan: Plan, statement: Statement, kept: Option<Kept>) -> Ready<Stage>
+        ensures ready { result.call ≡ call_of result.stage }
+        ensures settled { is_settled result.stage ≡ true }
+        ensures begins { (es : Entries) (out : Option AFinish) → Rest result.stage es out → Answered plan.tag plan.limit kept statement es out }
+        ensures most { left_of result.stage ≤ most_calls }
+        ensures first { IfSome result.call (λ call. place_of result.stage ≡ place.Between) }
+        ensures some { LeftBy (left_of result.stage) result.call }
+    {
+        let mut clock = ReadClock::new(plan.alloc);
+        match clock.next() {
+            Some(call) => {
+                let step = ClockStep {
+                    plan,
+                    statement,
+                    kept,
+                };
+                Ready {
+                    stage: Stage::Clock(step, clock),
+                    call: Some(call),
+                }
+            }
+            None => Stage::refused(kept, Refusal::NoMemory),
+        }
+    }
 }

@@ -1,8 +1,9 @@
 //! Commits and data files that were got.
-ghost use Rattle.std.specs.Prelude.{◌≡◌, ◌≤◌, suc, length, Some, IfOk, IfErr, OnOk, OnErr};
-ghost use Rattle.txn_machine.specs.Texts.{read_commit, commit_fault, read_file, file_fault};
+ghost use Rattle.std.specs.Prelude.{◌≡◌, Some, IfOk, IfErr, OnOk, OnErr};
+ghost use Rattle.statement_calls.specs.Texts.{read_commit, commit_fault, read_file, file_fault};
 ghost use Rattle.txn_machine.specs.Reading.{Extends, IsUnread, unread_by};
 
+use call_phases::Unread;
 use edge_api::Body;
 use line_texts::{TextFault, read_add, read_columns, read_rows};
 use op_types::{LogFaultKind, ObjectFault};
@@ -10,14 +11,7 @@ use row_base::Rows;
 use snapshot_replay::State;
 use std::alloc::Global;
 
-/// Why an object's bytes were not taken.
-#[derive(Drop)]
-pub enum Unread {
-    Bad(ObjectFault),
-    NoMemory,
-}
-
-fn fault_of(fault: TextFault) -> Unread
+fn fault_of(fault: TextFault) -> Unread<ObjectFault>
     ensures { result ≡ unread_by fault }
 {
     match fault {
@@ -35,11 +29,10 @@ pub fn apply_commit(
     state: &mut State,
     version: u64,
     text: &Body,
-) -> Result<(), Unread>
+) -> Result<(), Unread<ObjectFault>>
     ensures ok { OnOk result (Extends (read_commit version text.now) state.old state.new) }
     ensures err { IfErr result (IsUnread (read_commit version text.now) (commit_fault version text.now)) }
     ensures same { OnErr result (state.new ≡ state.old) }
-    ensures more { length state.new.files ≤ suc (length state.old.files) }
 {
     if version == 0 {
         match read_columns(alloc, text.as_bytes()) {
@@ -61,7 +54,7 @@ pub fn apply_commit(
 }
 
 /// The rows of a data file.
-pub fn rows_of_file(alloc: Global, text: &Body) -> Result<Rows, Unread>
+pub fn rows_of_file(alloc: Global, text: &Body) -> Result<Rows, Unread<ObjectFault>>
     ensures ok { IfOk result (λ rows. read_file text.now ≡ Some rows) }
     ensures err { IfErr result (IsUnread (read_file text.now) (file_fault text.now)) }
 {

@@ -1,5 +1,5 @@
 use Rattle.std.proofs.Common.{◌≡◌, ◌≤◌, length}
-use Rattle.txn_machine.specs.Phases.{missing}
+use Rattle.statement_calls.specs.Listing.{missing}
 use Rattle.txn_machine.proofs.listing.last_unmarked.Given as goal
 
 abbrev pub invariant-loop-count : goal.invariant-loop-count

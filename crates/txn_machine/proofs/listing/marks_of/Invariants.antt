@@ -1,5 +1,5 @@
 use Rattle.std.proofs.Common.{◌≡◌, ℕ, ◌<◌, ◌+◌, drop, length}
-use Rattle.txn_machine.specs.Phases.{is_listed}
+use Rattle.statement_calls.specs.Listing.{is_listed}
 use Rattle.txn_machine.specs.Listing.{marked_or_listed}
 use Rattle.txn_machine.proofs.listing.marks_of.Given as goal
 

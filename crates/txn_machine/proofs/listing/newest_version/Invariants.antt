@@ -1,5 +1,5 @@
 use Rattle.std.proofs.Common.{◌≡◌, drop}
-use Rattle.txn_machine.specs.Phases.{newest, later}
+use Rattle.statement_calls.specs.Listing.{newest, later}
 use Rattle.txn_machine.proofs.listing.newest_version.Given as goal
 
 abbrev pub invariant-loop-listed : goal.invariant-loop-listed

@@ -1,0 +1,23 @@
+//! What a statement is told, and what it knows of numbers.
+ghost use Rattle.std.specs.Prelude.{◌<◌, ◌≤◌};
+ghost use Rattle.statement_calls.specs.Bounds.{version_limit};
+
+use edge_api::Tag;
+use std::alloc::Global;
+
+/// Where memory comes from, the statement's tag, and how many attempts its commit may make.
+#[derive(Clone, Copy, Drop)]
+pub struct Plan {
+    pub alloc: Global,
+    pub tag: Tag,
+    pub limit: u32,
+    pub ghost some: { 0 < limit },
+    pub ghost few: { limit ≤ 1000000 },
+}
+
+/// A version that is supported.
+#[derive(Clone, Copy, Drop)]
+pub struct Supported {
+    pub version: u64,
+    pub ghost few: { version < version_limit },
+}

@@ -1,0 +1,63 @@
+//! A table is made: a commit at version 0, where none is listed.
+ghost use Rattle.std.specs.Prelude.{◌≡◌, ◌≤◌, true, Option, IfOk};
+ghost use Rattle.line_texts.specs.Texts.{text_of_columns};
+ghost use Rattle.call_phases.specs.Phases.{Entries};
+ghost use Rattle.call_phases.specs.Machine.{LeftBy};
+ghost use Rattle.statement_calls.specs.declared.finish.Finish.{Finish as AFinish};
+ghost use Rattle.statement_calls.specs.Bounds.{most_attempts};
+ghost use Rattle.statement_calls.specs.Listing.{newest};
+ghost use Rattle.statement_calls.specs.Answered.{names_of, Makes};
+ghost use Rattle.txn_machine.specs.Machine.{call_of, left_of, is_settled, Rest};
+
+use crate::listing::newest_version;
+use crate::{CommitStep, Plan, Stage};
+use call_phases::Ready;
+use edge_api::{Body, Listed};
+use line_texts::write_columns;
+use op_types::{Refusal, TableSpec};
+use row_base::{Column, NoMemory, Text};
+use statement_calls::Kept;
+use std::alloc::Global;
+
+/// The names of columns.
+fn names_of(alloc: Global, columns: &[Column]) -> Result<Vec<Text>, NoMemory>
+    ensures { IfOk result (λ names. names.items ≡ names_of columns.now) }
+{
+    let mut names = Vec::new(alloc);
+    for column in columns {
+        names.push(column.name.copy()?)?;
+    }
+    Ok(names)
+}
+
+/// The text of the commit that makes a table of these columns.
+fn table_text(alloc: Global, columns: &[Column]) -> Result<Body, NoMemory>
+    ensures { IfOk result (λ text. text ≡ text_of_columns (names_of columns.now)) }
+{
+    let names = names_of(alloc, columns)?;
+    let text = write_columns(alloc, &names)?;
+    Body::make(alloc, text)
+}
+
+/// The table is made, where no commit is listed.
+pub fn makes(
+    plan: Plan,
+    spec: &TableSpec,
+    kept: Option<Kept>,
+    start: u64,
+    listing: &[Listed],
+) -> Ready<Stage>
+    ensures ready { result.call ≡ call_of result.stage }
+    ensures settled { is_settled result.stage ≡ true }
+    ensures left { left_of result.stage ≤ most_attempts }
+    ensures some { LeftBy (left_of result.stage) result.call }
+    ensures may { (es : Entries) (out : Option AFinish) → Rest result.stage es out → Makes plan.tag plan.limit out spec.now.columns start kept (newest listing.now) es }
+{
+    if newest_version(listing).is_some() {
+        return Stage::refused(kept, Refusal::TableThere);
+    }
+    match table_text(plan.alloc, spec.columns.as_slice()) {
+        Ok(text) => CommitStep::begin(plan, text, kept, start, None),
+        Err(_) => Stage::refused(kept, Refusal::NoMemory),
+    }
+}
