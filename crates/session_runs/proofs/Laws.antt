@@ -193,9 +193,9 @@ grown_is (Some old) after part journal is now h =
     sym (ap (λ (l : Entries). l ++ part) none) ∙ some_same (old ++ part) journal (sym h ∙ now)
 
 -- a law of runs, by what each statement came to
-lawful_by : EachRunIsLawful → (limit : ℕ) (script : Tag → Option Statement) (outcomes : Tag → Option Finish) (replies : Tag → Option Reply) (moments : List Moment) → IsLegal [] 0 moments → laws.IsRun limit script (λ t. None) outcomes (entries_of moments)
+lawful_by : EachRunIsLawful → (limit : ℕ) (script : Tag → Option Statement) (outcomes : Tag → Option Finish) (replies : Tag → Option Reply) (moments : List Moment) → IsLegal [] 0 moments → laws.IsRun limit script outcomes (entries_of moments)
     → ((t : Tag) → laws.reply_in (outcomes t) ≡ replies t) → IsLawful script replies moments
-lawful_by lawful limit script outcomes replies moments legal run same = subst (λ (rs : Tag → Option Reply). IsLawful script rs moments) (λ i t. same t i) (lawful limit script (λ t. None) outcomes moments legal run)
+lawful_by lawful limit script outcomes replies moments legal run same = subst (λ (rs : Tag → Option Reply). IsLawful script rs moments) (λ i t. same t i) (lawful limit script outcomes moments legal run)
 
 pub is_serial : EachRunIsLawful → RowsReadBack → (p : Program) (before after : Told) (replies : List (List Reply)) → p.limit ≤ 1000000 → length p.sessions ≤ 64
     → All (λ s. length s ≤ 4096) p.sessions → All (λ s. All IsPlain s) p.sessions → Runs p before after replies → IsSerial p before after replies
@@ -214,6 +214,6 @@ is_serial lawful back p before after replies small few short plain runs is_befor
     let faithful : (t : Tag) (rows : List (List Datum)) → statement_of scripts t ≡ Some (Insert rows) → rows_of_text (text_of_rows rows) ≡ Some rows = λ t rows h.
     let f = found scripts t (Insert rows) h in
     back rows (long_rows rows (plain_of p.table p.sessions t.actor f.place f.sts (Insert rows) plain f.at f.there)) in
-    let run : laws.IsRun p.limit (statement_of scripts) (λ t. None) (λ t. (answered t).0) (entries_of moments) =
-    record { answered = λ t. (answered t).1; kept = λ t. inl refl; limited = omega (arith, small); tags = tags; faithful = faithful } in
+    let run : laws.IsRun p.limit (statement_of scripts) (λ t. (answered t).0) (entries_of moments) =
+    record { answered = λ t. (None, inl refl, (answered t).1); limited = omega (arith, small); tags = tags; faithful = faithful } in
     lawful_by lawful p.limit (statement_of scripts) (λ t. (answered t).0) (reply_of replies) moments legal run (λ t. (answered t).2)
