@@ -1,5 +1,4 @@
-pub mod Listings
-pub mod AttemptsEnd
-pub mod OpenEnds
+mod Chain
+mod Listings
 pub mod Places
-pub mod Versions
+mod Versions

@@ -1,5 +1,5 @@
 -- Where a statement stands: one phase, and what follows it.
-use Rattle.std.specs.Prelude.{◌≡◌, ℕ, ◌+◌, suc, List, [], Option, Some, None, Bool, true, false, is_some}
+use Rattle.std.specs.Prelude.{◌≡◌, ℕ, ◌+◌, List, [], Option, Some, None, Bool, true, false, is_some}
 use Rattle.edge_api.specs.declared.call.Call.{Call}
 use Rattle.edge_api.specs.declared.call.Listed.{Listed}
 use Rattle.op_types.specs.declared.refusal.ObjectFault.{ObjectFault}
@@ -73,7 +73,7 @@ abbrev pub NextScan : ScanStep → Option Finish → Files → Entries → Type 
 NextScan s out f es = AfterScan s.plan.tag s.plan.limit out s.kept s.read s.live (files_of f) es
 
 abbrev pub NextData : DataStep → Option Finish → Unit {0} → Entries → Type 0
-NextData s out u es = AtCommit s.plan.tag s.plan.limit out s.kept s.start (suc s.read.version) (record { text = s.text; makes_table = false }) (committed s.read.version) es
+NextData s out u es = AtCommit s.plan.tag s.plan.limit out s.kept s.start (attempts.first_after (Some s.read.version)) (record { text = s.text; makes_table = false }) (landed_after (Some s.read.version)) es
 
 abbrev pub NextCommit : CommitStep → Option Finish → Won CommitJudge → Entries → Type 0
 NextCommit s out w es = Replies out s.kept (landed_after s.read w.landed) es

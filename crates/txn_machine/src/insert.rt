@@ -63,11 +63,7 @@ fn data_files(alloc: Global, name: Name, rows: &Rows) -> Result<VecDeque<File>, 
 }
 
 /// The text of the commit, and the data file.
-fn append_of(
-    plan: Plan,
-    start: u64,
-    rows: &Rows,
-) -> Result<(Body, VecDeque<File>), NoMemory>
+fn append_of(plan: Plan, start: u64, rows: &Rows) -> Result<(Body, VecDeque<File>), NoMemory>
     ensures text { IfOk result (λ a. a.0 ≡ text_of_add (data_text plan.tag start 0)) }
     ensures files { IfOk result (λ a. a.1.items ≡ record { name = data_text plan.tag start 0; body = text_of_rows rows.now } ∷ []) }
 {

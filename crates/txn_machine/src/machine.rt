@@ -8,7 +8,6 @@ ghost use Rattle.statement_calls.specs.declared.finish.Finish.{Finish as AFinish
 ghost use Rattle.statement_calls.specs.Bounds.{most_after_list};
 ghost use Rattle.statement_calls.specs.Outcome.{refusal_of_call, refusal_of_load};
 ghost use Rattle.statement_calls.specs.Answered.{base_of, AtLoad, LoadsFrom, Loads};
-ghost use Rattle.statement_calls.specs.Listing.{newest};
 ghost use Rattle.txn_machine.specs.Machine.{call_of, left_of, is_settled, Rest};
 
 use crate::commits::{Base, kept_of};
@@ -18,7 +17,6 @@ use crate::{Commits, DataStep, Plan, ScanStep, Stage, Supported};
 use call_phases::{CallFault, GetFault, Gets, ListNames, ReadClock, Ready, Step, go};
 use edge_api::{Listed, Listing};
 use op_types::{Feature, ObjectFault, Refusal, Statement};
-use row_base::limits::VERSION_LIMIT;
 use statement_calls::{Kept, TableStatement};
 use std::alloc::Global;
 use table_rules::{commit_name, log_prefix};
@@ -139,13 +137,16 @@ impl Step for ListStep {
             start,
         } = self;
         let listing = names.as_slice();
+        let newest = newest_version(listing);
         match statement {
-            Statement::Table(spec) => makes(plan, &spec, kept, start, listing),
+            Statement::Table(spec) => makes(plan, &spec, kept, start, newest),
             Statement::Insert { rows } => {
                 let statement = TableStatement::Insert { rows };
-                LoadStep::loads(plan, statement, kept, start, listing)
+                LoadStep::loads(plan, statement, kept, start, listing, newest)
             }
-            Statement::Select => LoadStep::loads(plan, TableStatement::Select, kept, start, listing),
+            Statement::Select => {
+                LoadStep::loads(plan, TableStatement::Select, kept, start, listing, newest)
+            }
         }
     }
 
@@ -219,25 +220,22 @@ impl LoadStep {
         kept: Option<Kept>,
         start: u64,
         listing: &[Listed],
+        newest: Option<u64>,
     ) -> Ready<Stage>
         ensures ready { result.call ≡ call_of result.stage }
         ensures settled { is_settled result.stage ≡ true }
         ensures left { left_of result.stage ≤ most_after_list }
         ensures some { LeftBy (left_of result.stage) result.call }
-        ensures may { (es : Entries) (out : Option AFinish) → Rest result.stage es out → Loads plan.tag plan.limit out statement start listing.now kept (newest listing.now) es }
+        ensures may { (es : Entries) (out : Option AFinish) → Rest result.stage es out → Loads plan.tag plan.limit out statement start listing.now kept newest es }
     {
-        let Some(version) = newest_version(listing) else {
+        let Some(version) = newest else {
             return Stage::refused(kept, Refusal::NoTable);
         };
-        if version >= VERSION_LIMIT {
-            return Stage::refused(
-                kept,
-                Refusal::Unsupported {
-                    feature: Feature::Versions,
-                },
-            );
-        }
-        LoadStep::loads_from(plan, statement, kept, start, listing, Supported { version })
+        let Some(read) = Supported::make(version) else {
+            let feature = Feature::Versions;
+            return Stage::refused(kept, Refusal::Unsupported { feature });
+        };
+        LoadStep::loads_from(plan, statement, kept, start, listing, read)
     }
 }
 

@@ -79,14 +79,14 @@ impl Step for ScanStep {
     fn done(self, files: Files) -> Ready<Stage> {
         let files = files.got.into_vec();
         let files_read = files.len() as u64;
-        let reply = match sorted_rows(self.plan.alloc, files) {
-            Ok(rows) => Reply::Rows {
-                version: self.read,
-                rows,
-                files_read,
-                files_live: self.live,
-            },
-            Err(_) => Reply::Refused(Refusal::NoMemory),
+        let Ok(rows) = sorted_rows(self.plan.alloc, files) else {
+            return Stage::refused(self.kept, Refusal::NoMemory);
+        };
+        let reply = Reply::Rows {
+            version: self.read,
+            rows,
+            files_read,
+            files_live: self.live,
         };
         Stage::done(Finish {
             reply,

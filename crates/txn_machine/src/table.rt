@@ -1,18 +1,17 @@
 //! A table is made: a commit at version 0, where none is listed.
 ghost use Rattle.std.specs.Prelude.{◌≡◌, ◌≤◌, true, Option, IfOk};
+ghost use Rattle.op_types.specs.declared.reply.Reply.TheVariants.{Created};
 ghost use Rattle.line_texts.specs.Texts.{text_of_columns};
 ghost use Rattle.call_phases.specs.Phases.{Entries};
 ghost use Rattle.call_phases.specs.Machine.{LeftBy};
 ghost use Rattle.statement_calls.specs.declared.finish.Finish.{Finish as AFinish};
 ghost use Rattle.statement_calls.specs.Bounds.{most_attempts};
-ghost use Rattle.statement_calls.specs.Listing.{newest};
-ghost use Rattle.statement_calls.specs.Answered.{names_of, Makes};
+ghost use Rattle.statement_calls.specs.Answered.{names_of, AtCommit, Makes};
 ghost use Rattle.txn_machine.specs.Machine.{call_of, left_of, is_settled, Rest};
 
-use crate::listing::newest_version;
 use crate::{CommitStep, Plan, Stage};
 use call_phases::Ready;
-use edge_api::{Body, Listed};
+use edge_api::Body;
 use line_texts::write_columns;
 use op_types::{Refusal, TableSpec};
 use row_base::{Column, NoMemory, Text};
@@ -39,25 +38,37 @@ fn table_text(alloc: Global, columns: &[Column]) -> Result<Body, NoMemory>
     Body::make(alloc, text)
 }
 
+/// The commit that makes the table is attempted.
+fn commits(plan: Plan, spec: &TableSpec, kept: Option<Kept>, start: u64) -> Ready<Stage>
+    ensures ready { result.call ≡ call_of result.stage }
+    ensures settled { is_settled result.stage ≡ true }
+    ensures left { left_of result.stage ≤ most_attempts }
+    ensures some { LeftBy (left_of result.stage) result.call }
+    ensures may { (es : Entries) (out : Option AFinish) → Rest result.stage es out
+        → AtCommit plan.tag plan.limit out kept start 0 (record { text = text_of_columns (names_of spec.now.columns); makes_table = true }) (λ l. Created) es }
+{
+    match table_text(plan.alloc, spec.columns.as_slice()) {
+        Ok(text) => CommitStep::begin(plan, text, kept, start, None),
+        Err(_) => Stage::refused(kept, Refusal::NoMemory),
+    }
+}
+
 /// The table is made, where no commit is listed.
 pub fn makes(
     plan: Plan,
     spec: &TableSpec,
     kept: Option<Kept>,
     start: u64,
-    listing: &[Listed],
+    newest: Option<u64>,
 ) -> Ready<Stage>
     ensures ready { result.call ≡ call_of result.stage }
     ensures settled { is_settled result.stage ≡ true }
     ensures left { left_of result.stage ≤ most_attempts }
     ensures some { LeftBy (left_of result.stage) result.call }
-    ensures may { (es : Entries) (out : Option AFinish) → Rest result.stage es out → Makes plan.tag plan.limit out spec.now.columns start kept (newest listing.now) es }
+    ensures may { (es : Entries) (out : Option AFinish) → Rest result.stage es out → Makes plan.tag plan.limit out spec.now.columns start kept newest es }
 {
-    if newest_version(listing).is_some() {
-        return Stage::refused(kept, Refusal::TableThere);
-    }
-    match table_text(plan.alloc, spec.columns.as_slice()) {
-        Ok(text) => CommitStep::begin(plan, text, kept, start, None),
-        Err(_) => Stage::refused(kept, Refusal::NoMemory),
+    match newest {
+        None => commits(plan, spec, kept, start),
+        Some(_) => Stage::refused(kept, Refusal::TableThere),
     }
 }

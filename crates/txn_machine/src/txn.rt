@@ -28,13 +28,7 @@ pub struct Txn {
 impl Txn {
     /// A statement that is still to make its first call, with what is kept of an earlier load. Where memory is wanting
     /// it is refused at once. The limit is that of its attempts.
-    pub fn new(
-        alloc: Global,
-        tag: Tag,
-        statement: Statement,
-        limit: u32,
-        kept: Option<Kept>,
-    ) -> Txn
+    pub fn new(alloc: Global, tag: Tag, statement: Statement, limit: u32, kept: Option<Kept>) -> Txn
         requires some { 0 < limit }
         requires few { limit ≤ 1000000 }
         ensures ready { IsReady result }

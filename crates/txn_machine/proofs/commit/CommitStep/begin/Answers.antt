@@ -1,0 +1,15 @@
+use Rattle.std.proofs.Common.{rules, ◌≡◌, Bool, subst}
+use Rattle.std.specs.Prelude.{is_none}
+use Rattle.committer.specs.Machine.{first_after}
+use Rattle.statement_calls.specs.Answered.{AtCommit}
+use Rattle.txn_machine.specs.Machine.{landed_after}
+use Rattle.txn_machine.proofs.Chain.{then_commit}
+use Rattle.txn_machine.proofs.commit.CommitStep.begin.Goals as goal
+
+pub returns-clause-may : goal.returns-clause-may
+returns-clause-may c es out h =
+    let a = c.args in
+    let s = c.go.ensures.may es out h in
+    let same : c.is_none.result ≡ is_none a.read = search rules in
+    subst (λ (b : Bool). AtCommit a.plan.tag a.plan.limit out a.kept a.start (first_after a.read) (record { text = a.text; makes_table = b }) (landed_after a.read) es) same
+    (then_commit a.plan.tag a.plan.limit out a.kept a.start (first_after a.read) _ (landed_after a.read) es (s.0, c.new-attempts.ensures.leads es s.0 s.1, s.2))

@@ -1,0 +1,22 @@
+use Rattle.std.proofs.Common.{rules, ◌≡◌, inr}
+use Rattle.std.specs.Prelude.{Some, None}
+use Rattle.op_types.specs.declared.refusal.Refusal.TheVariants as refusal
+use Rattle.table_rules.specs.Names.{commit_text}
+use Rattle.statement_calls.specs.Outcome.{Ends}
+use Rattle.txn_machine.specs.Readers.{missing_for}
+use Rattle.txn_machine.proofs.Chain.{match_none, match_some, map_gone, no_log}
+use Rattle.txn_machine.proofs.machine.LoadStep.loads_from.Goals as goal
+
+pub returns-in-Ok-None-clause-may : goal.returns-in-Ok-None-clause-may
+returns-in-Ok-None-clause-may c es out h =
+    let a = c.args in
+    let none : missing_for a.kept a.read.version a.listing.now ≡ None = search rules in
+    inr (match_none (missing_for a.kept a.read.version a.listing.now) _ _ none (c.begin.ensures.may es out h))
+
+pub returns-in-Ok-Some-clause-may : goal.returns-in-Ok-Some-clause-may
+returns-in-Ok-Some-clause-may c es out h =
+    let a = c.args in
+    let version = c.in-Ok-Some.version in
+    let some : missing_for a.kept a.read.version a.listing.now ≡ Some version = search rules in
+    let ends : Ends out a.kept c.log_gone.result es = search rules in
+    map_gone (missing_for a.kept a.read.version a.listing.now) version _ _ _ some (no_log a.plan.tag a.plan.limit out a.kept c.log_gone.result (refusal.LogGone (commit_text version)) es c.log_gone.ensures ends)
