@@ -22,8 +22,8 @@ use Rattle.table_rules.proofs.Names.{commits_differ, data_is_no_commit}
 use Rattle.line_texts.specs.Texts.{text_of_columns}
 use Rattle.snapshot_replay.specs.Table.{Snapshot}
 use Rattle.call_phases.specs.Phases.{Entries}
-use Rattle.txn_machine.specs.Texts.{read_commit}
-use Rattle.txn_machine.specs.Answered.{names_of}
+use Rattle.statement_calls.specs.Texts.{read_commit}
+use Rattle.statement_calls.specs.Answered.{names_of}
 use Rattle.actor_core.specs.Entries.{own}
 use Rattle.actor_core.proofs.Owners.{same_tag-refl, same_tag_is}
 use Rattle.table_laws.specs.Rows.{Row}
@@ -31,7 +31,8 @@ use Rattle.table_laws.specs.Operations.{Operation, operation_of}
 use Rattle.table_laws.proofs.CommitEffects as effects
 use Rattle.table_laws.specs.Levels.{Level}
 use Rattle.table_laws.specs.History.{Put, put_under, body_of, put_if_free, puts_of, if_done, puts_at, history}
-use Rattle.table_laws.specs.Runs.{or_first, listed_by, told_by, version_put, with_version, versions_put, first_given, GotIn, StoredIn}
+use Rattle.table_laws.specs.Runs.{or_first, listed_by, told_by, version_put, with_version, versions_put, first_given}
+use Rattle.table_laws.proofs.Sessions.{GotIn, StoredIn}
 use Rattle.table_laws.proofs.Lawful.{Known, PutIn, NoPut, FoundMissing, first_past, Knows, versions_down, IsCommitOf, MayPut, IsFile, IsTable, IsCommit, LawfulBy, AllLawful}
 use Rattle.table_laws.proofs.Known.{knows_more}
 use Rattle.table_laws.proofs.Phases.{same_put}
