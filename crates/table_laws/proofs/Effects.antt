@@ -18,7 +18,7 @@ use Rattle.table_laws.specs.History.{Put, or_none, or_nothing, commit_at, rows_o
 use Rattle.table_laws.proofs.Sessions.{LoadedTo}
 use Rattle.table_laws.proofs.Files.{in-cons}
 use Rattle.table_laws.proofs.Lawful.{AllGot, judge_of}
-use Rattle.table_laws.proofs.Journals.{InPut}
+use Rattle.table_laws.proofs.Shown.{InPut}
 
 -- no row of a list is of a scope
 no_row : (P : Row → Bool) (xs : List Row) → any_row P xs ≡ false → (x : Row) → P x ≡ true → count_of x xs ≡ 0

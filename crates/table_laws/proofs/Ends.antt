@@ -20,7 +20,8 @@ use Rattle.table_laws.proofs.Lawful.{ClaimOf}
 use Rattle.table_laws.proofs.Known.{kept_more}
 use Rattle.table_laws.proofs.Statements.{answered_lawful}
 use Rattle.table_laws.proofs.Kept.{answered_known}
-use Rattle.table_laws.proofs.Journals.{InPut, End, Keeps, KeepsPart, nothing_stands, whole, own_got, got_at, stored_at}
+use Rattle.table_laws.proofs.Shown.{InPut, own_got, got_at, stored_at}
+use Rattle.table_laws.proofs.Journals.{End, Keeps, KeepsPart, nothing_stands, whole}
 use Rattle.table_laws.proofs.Reads.{empty_first}
 use Rattle.table_laws.proofs.Serial.{makes_table, commits_read, files_read, step, lands, has_committed, has_read, once}
 

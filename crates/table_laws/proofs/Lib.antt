@@ -14,6 +14,7 @@ pub mod Statements
 pub mod Kept
 pub mod Names
 pub mod Puts
+pub mod Shown
 pub mod Journals
 pub mod Effects
 pub mod Tries

@@ -24,7 +24,8 @@ use Rattle.table_laws.specs.Laws.{CommitPut, Wins, Loses, Fails, CommitPutsAreDe
 use Rattle.table_laws.proofs.Lawful.{MayPut, LawfulBy}
 use Rattle.table_laws.proofs.Puts.{body_at}
 use Rattle.table_laws.proofs.Tries.{put_under-behind}
-use Rattle.table_laws.proofs.Journals.{Stands, Keeps, nothing_stands, lawful_next, keeps_rest, call_step, not_own, put_of_body}
+use Rattle.table_laws.proofs.Shown.{put_of_body}
+use Rattle.table_laws.proofs.Journals.{Stands, Keeps, nothing_stands, lawful_next, keeps_rest, call_step, not_own}
 use Rattle.table_laws.proofs.Ends.{keeps_answered}
 
 module _ (level : Level) (K : Tag → List ℕ → List ℕ → Type 0) (script : Tag → Option Statement) (replies : Tag → Option Reply) (tags : (tag : Tag) (statement : Statement) → script tag ≡ Some statement → IsTag tag) where

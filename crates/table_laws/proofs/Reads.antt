@@ -18,7 +18,7 @@ use Rattle.table_laws.specs.Laws.{FileReads, AllFilesRead}
 use Rattle.table_laws.proofs.Files.{times, is_one, times-placed, times-without_other, times-without_same}
 use Rattle.table_laws.proofs.Lawful.{AllScanned}
 use Rattle.table_laws.proofs.Sessions.{LoadedTo}
-use Rattle.table_laws.proofs.Journals.{InPut}
+use Rattle.table_laws.proofs.Shown.{InPut}
 use Rattle.table_laws.proofs.Effects.{file_is}
 
 pub some_put : (o : Option Put) → IsSome o → (p : Put) × (o ≡ Some p)

@@ -36,7 +36,8 @@ use Rattle.table_laws.proofs.Lawful.{Known, AllGot, Knows, ClaimsCommit, ClaimsR
 use Rattle.table_laws.proofs.Known.{loaded_more, knows_more, scanned_more}
 use Rattle.table_laws.proofs.Tries.{put_in_order, put_under-front}
 use Rattle.table_laws.proofs.Names.{same_file}
-use Rattle.table_laws.proofs.Journals.{InPut, Sure, Stands, Committed, backwards, given_is, own_got, put_of_body, some_same}
+use Rattle.table_laws.proofs.Shown.{InPut, Sure, backwards, given_is, own_got, put_of_body, some_same}
+use Rattle.table_laws.proofs.Journals.{Stands, Committed}
 use Rattle.table_laws.proofs.Effects.{effect_balance, file_is, commit_is, loaded_is, same_new, same_effect, judge_same}
 use Rattle.table_laws.proofs.Reads.{some_put, some_of_body, is_some, none_more, empty_first, same_commit, same_path, first_added, added_is, scanned_rows, scanned_long, length-paths_of, first_loaded, lines_read}
 
