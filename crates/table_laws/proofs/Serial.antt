@@ -1,6 +1,6 @@
 -- Each committed version follows from the one before.
 use Rattle.std.proofs.Common.{◌≡◌, ◌⊎◌, inl, inr, ℕ, zero, suc, ◌+◌, ◌-◌, ◌≤◌, ◌<◌, ◌^◌, Bool, true, false, List, [], ◌∷◌, ◌++◌, length, refl, sym, ◌∙◌, ap, subst, arith}
-use Rattle.std.specs.Prelude.{Option, Some, option_map}
+use Rattle.std.specs.Prelude.{Option, Some, None, option_map}
 use Rattle.std.specs.Str.{bytes_eq}
 use Rattle.std.proofs.lemmas.Slice.Eq.{bytes_eq-Decides}
 use Rattle.edge_api.specs.declared.call.Tag.{Tag}
@@ -28,7 +28,7 @@ use Rattle.table_laws.proofs.CommitEffects.{may_match, new_rows, new_file, effec
 use Rattle.table_laws.specs.Levels.{Level}
 use Rattle.table_laws.specs.History.{Put, put_under, body_of, commit_at, rows_of, IsCommitted}
 use Rattle.table_laws.specs.Runs.{listed_by}
-use Rattle.table_laws.proofs.Sessions.{GotIn, StoredIn, LoadedTo}
+use Rattle.table_laws.proofs.Sessions.{GotIn, StoredIn}
 use Rattle.table_laws.specs.Laws.{statement_of, operation_by, inserted_by, appended, Step, versions_from, IsWonBefore, Lands, HasCommitted, HasRead, MakesTable, ReadsAt, FileReads, AllFilesRead}
 use Rattle.table_laws.proofs.Files.{times}
 use Rattle.table_laws.proofs.Winners.{Landed, serial}
