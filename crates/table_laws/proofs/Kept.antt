@@ -14,8 +14,10 @@ use Rattle.op_types.specs.declared.refusal.Refusal.TheVariants as refusal
 use Rattle.op_types.specs.declared.refusal.Clash.{Clash}
 use Rattle.op_types.specs.fault.Feature.TheVariants.{Versions}
 use Rattle.op_types.specs.declared.reply.Reply.{Reply}
-use Rattle.table_rules.specs.Names.{commit_text}
-use Rattle.snapshot_replay.specs.Table.{Snapshot}
+use Rattle.op_types.specs.declared.reply.Reply.TheVariants.{Created, Rows}
+use Rattle.table_rules.specs.Names.{log_prefix, commit_text, data_text}
+use Rattle.line_texts.specs.Texts.{text_of_columns, text_of_add, text_of_rows}
+use Rattle.snapshot_replay.specs.Table.{Snapshot, paths_of}
 use Rattle.call_phases.specs.Phases.{Entries, OnGot, AtNow, AtList, AtGet, AtPutNew}
 use Rattle.call_phases.specs.Called.{called_get}
 use Rattle.call_phases.specs.Gets.{OnReading, AtGets}
@@ -39,7 +41,7 @@ use Rattle.statement_calls.specs.Judging.{CommitPlan, Bodies, Judges}
 use Rattle.statement_calls.specs.Listing.{newest, missing}
 use Rattle.statement_calls.specs.Objects.{next_commit, apply_next, commits_left, next_file, scan_next}
 use Rattle.statement_calls.specs.Outcome.{IsOpen, Ends, Replies, refusal_of_load, refusal_of_scan, refusal_of_attempt}
-use Rattle.statement_calls.specs.Answered.{Base, base_of, kept_after, AtCommit, AfterScan, AfterLoad, AtLoad, LoadsFrom, Loads, Makes, AfterList, Answered}
+use Rattle.statement_calls.specs.Answered.{retention, names_of, Base, base_of, kept_after, committed, AtCommit, AfterScan, AfterLoad, AtLoad, LoadsFrom, Loads, Makes, AfterList, Answered}
 use Rattle.table_laws.specs.Runs.{kept_in}
 use Rattle.table_laws.proofs.Sessions.{GotIn, KnownKept}
 use Rattle.table_laws.proofs.Loads.{Loading, loading_on, all_loaded, base_known, after_known}
@@ -173,21 +175,22 @@ module _ (K : List ℕ → List ℕ → Type 0) (out : Option Finish) where
 
   module _ (tag : Tag) (limit : ℕ) where
     commit_known : (kept : Option Kept) → KnownKept K kept → (start first : ℕ) (plan : CommitPlan) (landed : Landed → Reply) (es : Entries) → Shows es → AtCommit tag limit out kept start first plan landed es → IsKnown
-    commit_known kept held start first plan landed es shows h = attempt_known kept held _ landed limit 0 [] plan es shows h
+    commit_known kept held start first plan landed es shows h = attempt_known kept held (record { start = start; retention = retention; first = first }) landed limit 0 [] plan es shows h
 
     loaded_known : (statement : TableStatement) (kept : Option Kept) → KnownKept K kept → (start read : ℕ) (s : Snapshot) (es : Entries) → Shows es → AfterLoad tag limit out statement start read kept s es → IsKnown
     loaded_known (over.Insert rows) kept held start read s es shows h =
-        put_known kept held _ _ _ _ _ es shows h (λ rest shown on. refused_known kept held _ rest on) (λ rest shown on. commit_known kept held start (suc read) _ _ rest shown on) (λ rest shown on. refused_known kept held _ rest on)
+        put_known kept held (data_text tag start 0) (text_of_rows rows) _ _ _ es shows h (λ rest shown on. refused_known kept held _ rest on)
+        (λ rest shown on. commit_known kept held start (suc read) (record { text = text_of_add (data_text tag start 0); makes_table = false }) (committed read) rest shown on) (λ rest shown on. refused_known kept held _ rest on)
     loaded_known over.Select kept held start read s es shows h =
-        gets_known kept held next_file scan_next refusal_of_scan (λ f rest. AfterScan tag limit out kept read (length s.files) f rest) (λ f. Unit {0}) (λ f new name body wanted known is p. tt) _ es tt shows h
-        (λ f rest none p shown on. elim on [ inl short ↦ refused_known kept held refusal.NoMemory rest short | inr rows ↦ ends_known kept held _ rest rows.2 ])
+        gets_known kept held next_file scan_next refusal_of_scan (λ f rest. AfterScan tag limit out kept read (length s.files) f rest) (λ f. Unit {0}) (λ f new name body wanted known is p. tt) (record { paths = paths_of s.files; got = [] }) es tt shows h
+        (λ f rest none p shown on. elim on [ inl short ↦ refused_known kept held refusal.NoMemory rest short | inr rows ↦ ends_known kept held (Rows read rows.0 (length f.got) (length s.files)) rest rows.2 ])
 
     base_on : (statement : TableStatement) (start v : ℕ) (base : Base) (es : Entries) → Loading K (suc v) base.commits → KnownKept K base.spare → Shows es → AtLoad tag limit out statement start v base es → IsKnown
     base_on statement start v base es known held shows h =
         gets_known base.spare held next_commit apply_next refusal_of_load
         (λ c rest. AfterLoad tag limit out statement start v (Some (kept_after base.spare (record { versions = suc v; state = c.table }))) c.table rest)
         (Loading K (suc v)) (loading_on K (suc v)) base.commits es known shows h
-        (λ c rest done x shown on. loaded_known statement _ (after_known K base.spare _ held (all_loaded K (suc v) c done x)) start v c.table rest shown on)
+        (λ c rest done x shown on. loaded_known statement (Some (kept_after base.spare (record { versions = suc v; state = c.table }))) (after_known K base.spare (record { versions = suc v; state = c.table }) held (all_loaded K (suc v) c done x)) start v c.table rest shown on)
 
     loads_known : (statement : TableStatement) (kept : Option Kept) → KnownKept K kept → (start : ℕ) (l : List Listed) (o : Option ℕ) (es : Entries) → Shows es → Loads tag limit out statement start l kept o es → IsKnown
     loads_known statement kept held start l None es shows h = refused_known kept held refusal.NoTable es h
@@ -203,7 +206,7 @@ module _ (K : List ℕ → List ℕ → Type 0) (out : Option Finish) where
         by false on = refused_known kept held (refusal.Unsupported Versions) es on
 
     makes_known : (kept : Option Kept) → KnownKept K kept → (columns : List Column) (start : ℕ) (o : Option ℕ) (es : Entries) → Shows es → Makes tag limit out columns start kept o es → IsKnown
-    makes_known kept held columns start None es shows h = commit_known kept held start 0 _ _ es shows h
+    makes_known kept held columns start None es shows h = commit_known kept held start 0 (record { text = text_of_columns (names_of columns); makes_table = true }) (λ l. Created) es shows h
     makes_known kept held columns start (Some v) es shows h = refused_known kept held refusal.TableThere es h
 
     listed_known : (statement : Statement) (kept : Option Kept) → KnownKept K kept → (start : ℕ) (l : List Listed) (es : Entries) → Shows es → AfterList tag limit out statement kept start l es → IsKnown
@@ -215,4 +218,4 @@ module _ (K : List ℕ → List ℕ → Type 0) (out : Option Finish) where
 pub answered_known : (K : List ℕ → List ℕ → Type 0) (tag : Tag) (limit : ℕ) (kept : Option Kept) → KnownKept K kept → (statement : Statement) (es : Entries) (out : Option Finish) → ((n b : List ℕ) → GotIn es n b → K n b)
     → Answered tag limit kept statement es out → KnownKept K (kept_in out)
 answered_known K tag limit kept held statement es out shows h =
-    now_known K out kept held _ _ es shows h (λ start rest shown on. list_known K out kept held _ _ _ rest shown on (λ l rest' shown' on'. listed_known K out tag limit statement kept held start l rest' shown' on'))
+    now_known K out kept held _ _ es shows h (λ start rest shown on. list_known K out kept held _ log_prefix _ rest shown on (λ l rest' shown' on'. listed_known K out tag limit statement kept held start l rest' shown' on'))

@@ -26,15 +26,16 @@ loading_on knows end c new name body wanted known is x = by (nat_lt c.at c.end) 
   where
     with_commit : (t : Commit) → c.at < c.end → commit_text c.at ≡ name → read_commit c.at body ≡ Some t → record { at = suc c.at; end = c.end; table = applied c.table t } ≡ new → Loading knows end new
     with_commit t less same reads made =
+        let le : suc c.at ≤ c.end = omega arith in
         subst (λ (n : Commits). Loading knows end n) made
-        (record { loaded = (c.table, body, t, x.loaded, subst (λ (n : List ℕ). knows n body) (sym same) known, reads, refl); within = less; same = x.same })
+        (record { loaded = (c.table, body, t, x.loaded, subst (λ (n : List ℕ). knows n body) (sym same) known, reads, refl); within = le; same = x.same })
 
     by_commit : (o : Option Commit) → read_commit c.at body ≡ o → c.at < c.end → commit_text c.at ≡ name → behind c (commit_fault c.at body) o ≡ Ok new → Loading knows end new
     by_commit None reads less same made = cc
-    by_commit (Some t) reads less same made = with_commit t less same reads cc
+    by_commit (Some t) reads less same made = with_commit t less same reads (cc)
 
     by : (b : Bool) → nat_lt c.at c.end ≡ b → (if b then Some (commit_text c.at) else None) ≡ Some name → Loading knows end new
-    by true less first = by_commit (read_commit c.at body) refl (grind (arith, nat_tests)) cc is
+    by true less first = by_commit (read_commit c.at body) refl (grind (arith, nat_tests)) (cc) is
     by false more first = cc
 
 -- no commit is left
@@ -51,12 +52,12 @@ base_if k v b = if b then from_first (Some k) v else record { commits = record {
 module _ (knows : List ℕ → List ℕ → Type 0) where
   -- a load begins with what is kept, or with no table
   pub base_known : (kept : Option Kept) (v : ℕ) → KnownKept knows kept → Loading knows (suc v) (base_of kept v).commits × KnownKept knows (base_of kept v).spare
-  base_known None v held = (record { loaded = refl; within = omega arith; same = refl }, tt)
+  base_known None v held = let le : 0 ≤ suc v = omega arith in (record { loaded = refl; within = le; same = refl }, tt)
   base_known (Some k) v held = by (nat_lt (suc v) k.versions) refl
     where
       by : (b : Bool) → nat_lt (suc v) k.versions ≡ b → Loading knows (suc v) (base_if k v b).commits × KnownKept knows (base_if k v b).spare
-      by true more = (record { loaded = refl; within = omega arith; same = refl }, held)
-      by false less = (record { loaded = held; within = grind (arith, nat_tests); same = refl }, tt)
+      by true more = let le : 0 ≤ suc v = omega arith in (record { loaded = refl; within = le; same = refl }, held)
+      by false less = let le : k.versions ≤ suc v = grind (arith, nat_tests) in (record { loaded = held; within = le; same = refl }, tt)
 
   -- what is kept after a load
   pub after_known : (spare : Option Kept) (loaded : Kept) → KnownKept knows spare → LoadedTo knows loaded.versions loaded.state → KnownKept knows (Some (kept_after spare loaded))

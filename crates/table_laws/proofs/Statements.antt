@@ -262,11 +262,11 @@ module _ (level : Level) (K : List ℕ → List ℕ → Type 0) (tag : Tag) (lim
 
       by_rows : (path : List ℕ) (paths : List (List ℕ)) (o : Option (List Row)) → read_file body ≡ o → x.done ++ path ∷ paths ≡ paths_of s.files → path ≡ name → with_rows path paths f.got (file_fault body) o ≡ Ok new → Scans start read s new (e ∷ past)
       by_rows path paths None reads all same is = cc
-      by_rows path paths (Some rows) reads all same is = with_file path paths rows all same reads cc
+      by_rows path paths (Some rows) reads all same is = with_file path paths rows all same reads (cc)
 
       by : (paths : List (List ℕ)) → x.done ++ paths ≡ paths_of s.files → first_of paths ≡ Some name → scan_first paths f.got body ≡ Ok new → Scans start read s new (e ∷ past)
       by [] all first is = cc
-      by (path ∷ paths) all first is = by_rows path paths (read_file body) refl all cc is
+      by (path ∷ paths) all first is = by_rows path paths (read_file body) refl all (cc) is
 
   -- a select: its files, then their rows
   selects : (out : Option Finish) (kept : Option Kept) (start read : ℕ) (s : Snapshot) (past es : Entries) → LoadedTo (Known K past) (suc read) s → Fresh start read past → Selects tag limit out s kept read es → AllLawful level K tag Select (reply_in out) past es
@@ -297,7 +297,7 @@ module _ (level : Level) (K : List ℕ → List ℕ → Type 0) (tag : Tag) (lim
           }) on.2
 
   -- the statement whose work over a loaded table it is
-  abbrev pub whole : TableStatement → Statement
+  abbrev whole : TableStatement → Statement
   whole (over.Insert rows) = Insert rows
   whole over.Select = Select
 
