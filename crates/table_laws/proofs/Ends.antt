@@ -22,7 +22,7 @@ use Rattle.table_laws.proofs.Statements.{answered_lawful}
 use Rattle.table_laws.proofs.Kept.{answered_known}
 use Rattle.table_laws.proofs.Shown.{InPut, own_got, got_at, stored_at}
 use Rattle.table_laws.proofs.Journals.{End, Keeps, KeepsPart, nothing_stands, whole}
-use Rattle.table_laws.proofs.Reads.{empty_first}
+use Rattle.table_laws.proofs.Readings.{empty_first}
 use Rattle.table_laws.proofs.Serial.{makes_table, commits_read, files_read, step, lands, has_committed, has_read, once}
 
 module _ (level : Level) (limit : ℕ) (script : Tag → Option Statement) (outcomes : Tag → Option Finish) (moments : List Moment) (legal : IsLegal [] 0 moments) (run : IsRun limit script outcomes (entries_of moments)) where

@@ -18,7 +18,7 @@ pub mod Shown
 pub mod Journals
 pub mod Effects
 pub mod Tries
-pub mod Reads
+pub mod Readings
 pub mod Serial
 pub mod Ends
 pub mod Folded

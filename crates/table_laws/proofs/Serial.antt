@@ -39,7 +39,7 @@ use Rattle.table_laws.proofs.Names.{same_file}
 use Rattle.table_laws.proofs.Shown.{InPut, Sure, backwards, given_is, own_got, put_of_body, some_same}
 use Rattle.table_laws.proofs.Journals.{Stands, Committed}
 use Rattle.table_laws.proofs.Effects.{effect_balance, file_is, commit_is, loaded_is, same_new, same_effect, judge_same}
-use Rattle.table_laws.proofs.Reads.{some_put, some_of_body, is_some, none_more, empty_first, same_commit, same_path, first_added, added_is, scanned_rows, scanned_long, length-paths_of, first_loaded, lines_read}
+use Rattle.table_laws.proofs.Readings.{some_put, some_of_body, is_some, none_more, empty_first, same_commit, same_path, first_added, added_is, scanned_rows, scanned_long, length-paths_of, first_loaded, lines_read}
 
 module _ (level : Level) (K : Tag → List ℕ → List ℕ → Type 0) (script : Tag → Option Statement) (replies : Tag → Option Reply) (tags : (tag : Tag) (statement : Statement) → script tag ≡ Some statement → IsTag tag)
     (past : Entries) (os : Objects) (ps : List Put) (s : Stands level K script replies tags past os ps) (known : (t : Tag) (n b : List ℕ) → K t n b → InPut ps n b) where
