@@ -9,11 +9,12 @@ use Rattle.op_types.specs.declared.reply.Reply.TheVariants.{Committed as Committ
 use Rattle.snapshot_replay.specs.Table.{Action, reconciled}
 use Rattle.call_phases.specs.Phases.{Entries}
 use Rattle.statement_calls.specs.declared.finish.Finish.{Finish}
+use Rattle.statement_calls.specs.declared.finish.Kept.{Kept}
 use Rattle.actor_core.specs.Entries.{own}
 use Rattle.table_laws.specs.Files.{rows_in}
 use Rattle.table_laws.specs.Levels.{Level, Serializable}
 use Rattle.table_laws.specs.History.{body_of, rows_of, history}
-use Rattle.table_laws.specs.Runs.{kept_in, kept_at, kept_before, replies_of, IsAnsweredPart, IsRun}
+use Rattle.table_laws.specs.Runs.{kept_in, kept_at, kept_before, replies_of, BeginsWith, IsAnsweredPart, IsRun}
 use Rattle.table_laws.specs.Laws.{VersionsAreSerial, FirstIsEmpty, FirstMakesTable, CommitsOnce, CommitsRead, FilesRead, CommitsLand, RepliesCommitted, RepliesRead}
 use Rattle.table_laws.proofs.Sessions.{SessionKnows, KnownKept}
 use Rattle.table_laws.proofs.Lawful.{ClaimOf}
@@ -32,24 +33,29 @@ module _ (level : Level) (limit : ℕ) (script : Tag → Option Statement) (outc
   abbrev K : Tag → List ℕ → List ℕ → Type 0
   K = SessionKnows journal
 
-  part_kept : (t : Tag) → KnownKept (K t) (kept_before outcomes t) → (s : Option Statement) → IsAnsweredPart limit t (kept_before outcomes t) s (own t journal) (outcomes t) → KnownKept (K t) (kept_in (outcomes t))
-  part_kept t held None h = subst (λ (o : Option Finish). KnownKept (K t) (kept_in o)) (sym h.1) tt
-  part_kept t held (Some statement) h = answered_known (K t) t limit (kept_before outcomes t) held statement (own t journal) (outcomes t) (λ n b got. (t, refl, inl got)) h
+  part_kept : (t : Tag) (kept : Option Kept) → KnownKept (K t) kept → (s : Option Statement) → IsAnsweredPart limit t kept s (own t journal) (outcomes t) → KnownKept (K t) (kept_in (outcomes t))
+  part_kept t kept held None h = subst (λ (o : Option Finish). KnownKept (K t) (kept_in o)) (sym h.1) tt
+  part_kept t kept held (Some statement) h = answered_known (K t) t limit kept held statement (own t journal) (outcomes t) (λ n b got. (t, refl, inl got)) h
+
+  begun_known : (t : Tag) (kept : Option Kept) → KnownKept (K t) (kept_before outcomes t) → BeginsWith outcomes t kept → KnownKept (K t) kept
+  begun_known t kept held (inl none) = subst (KnownKept (K t)) (sym none) tt
+  begun_known t kept held (inr same) = subst (KnownKept (K t)) (sym same) held
 
   -- what a session keeps is the table of its versions, by what it knows
   kept_known : (t : Tag) (n : ℕ) → KnownKept (K t) (kept_at outcomes t.actor n)
   kept_known t zero = tt
   kept_known t (suc n) =
       let u : Tag = record { actor = t.actor; statement = n } in
-      kept_more (K u) (K t) (λ n b k. (k.0, k.1, k.2)) (kept_in (outcomes u)) (part_kept u (kept_known u n) (script u) (run.answered u))
+      let a = run.answered u in
+      kept_more (K u) (K t) (λ n b k. (k.0, k.1, k.2)) (kept_in (outcomes u)) (part_kept u a.0 (begun_known u a.0 (kept_known u n) a.1) (script u) a.2)
 
   pub keeps_answered : Keeps level K script (replies_of outcomes) run.tags [] journal
-  keeps_answered t = part (script t) refl (run.answered t)
+  keeps_answered t = part (run.answered t).0 (begun_known t (run.answered t).0 (kept_known t t.statement) (run.answered t).1) (script t) refl (run.answered t).2
     where
-      part : (s : Option Statement) → script t ≡ s → IsAnsweredPart limit t (kept_before outcomes t) s (own t journal) (outcomes t) → KeepsPart level K script (replies_of outcomes) run.tags t s (replies_of outcomes t) [] (own t journal)
-      part None e h = h.0
-      part (Some statement) e h =
-          answered_lawful level (K t) t limit run.limited (kept_before outcomes t) (kept_known t t.statement) statement (λ rows is. run.faithful t rows (e ∙ ap (λ (s : Statement). Some s) is)) (own t journal) (outcomes t) h
+      part : (kept : Option Kept) → KnownKept (K t) kept → (s : Option Statement) → script t ≡ s → IsAnsweredPart limit t kept s (own t journal) (outcomes t) → KeepsPart level K script (replies_of outcomes) run.tags t s (replies_of outcomes t) [] (own t journal)
+      part kept held None e h = h.0
+      part kept held (Some statement) e h =
+          answered_lawful level (K t) t limit run.limited kept held statement (λ rows is. run.faithful t rows (e ∙ ap (λ (s : Statement). Some s) is)) (own t journal) (outcomes t) h
 
   abbrev at_end : Type 0
   at_end = End level K script (replies_of outcomes) run.tags [] journal (history [] moments)

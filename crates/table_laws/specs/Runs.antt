@@ -1,5 +1,5 @@
 -- Journals in which each statement of a script is answered by its own entries.
-use Rattle.std.specs.Prelude.{◌≡◌, ℕ, zero, suc, ◌<◌, ◌^◌, if◌then◌else◌, List, [], ◌∷◌, Option, Some, None}
+use Rattle.std.specs.Prelude.{◌≡◌, ◌⊎◌, ℕ, zero, suc, ◌<◌, ◌^◌, if◌then◌else◌, List, [], ◌∷◌, Option, Some, None}
 use Rattle.std.specs.Str.{bytes_eq}
 use Rattle.edge_api.specs.declared.call.Tag.{Tag}
 use Rattle.edge_api.specs.declared.call.Call.{Call}
@@ -34,7 +34,7 @@ kept_in (Some finish) = finish.kept
 abbrev pub replies_of : (Tag → Option Finish) → Tag → Option Reply
 replies_of outcomes tag = reply_in (outcomes tag)
 
--- what an actor's statement of a number starts from: what the one before it kept, and nothing at first
+-- what the statement before an actor's statement of this number kept; nothing is before the first
 abbrev pub kept_at : (Tag → Option Finish) → ℕ → ℕ → Option Kept
 kept_at outcomes actor zero = None
 kept_at outcomes actor (suc n) = kept_in (outcomes (record { actor = actor; statement = n }))
@@ -47,10 +47,14 @@ abbrev pub IsAnsweredPart : ℕ → Tag → Option Kept → Option Statement →
 IsAnsweredPart limit tag kept None part out = (part ≡ []) × (out ≡ None)
 IsAnsweredPart limit tag kept (Some statement) part out = Answered tag limit kept statement part out
 
--- Each statement of the script is answered by its own entries, from what its session's statement before it kept, and nothing else makes any. A statement with
--- no outcome is still open
+-- a statement begins with nothing kept, or with what its session's statement before it kept
+abbrev pub BeginsWith : (Tag → Option Finish) → Tag → Option Kept → Type 0
+BeginsWith outcomes tag kept = (kept ≡ None) ⊎ (kept ≡ kept_before outcomes tag)
+
+-- each statement of the script is answered by its own entries, and nothing else makes any. A statement with no outcome is still open
 abbrev pub IsAnswered : ℕ → (Tag → Option Statement) → (Tag → Option Finish) → Entries → Type 0
-IsAnswered limit script outcomes journal = (tag : Tag) → IsAnsweredPart limit tag (kept_before outcomes tag) (script tag) (own tag journal) (outcomes tag)
+IsAnswered limit script outcomes journal =
+    (tag : Tag) → (kept : Option Kept) × BeginsWith outcomes tag kept × IsAnsweredPart limit tag kept (script tag) (own tag journal) (outcomes tag)
 
 -- the first of two, if it is there
 abbrev pub or_first : {A : Type 0} → Option A → Option A → Option A
