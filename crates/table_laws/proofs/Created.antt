@@ -4,7 +4,6 @@ use Rattle.std.specs.Prelude.{Option, Some}
 use Rattle.edge_api.specs.declared.call.Tag.{Tag}
 use Rattle.edge_api.specs.Journal.{Objects, Moment, IsLegal, entries_of}
 use Rattle.op_types.specs.declared.statement.Statement.{Statement}
-use Rattle.op_types.specs.declared.statement.TableSpec.{TableSpec}
 use Rattle.op_types.specs.declared.reply.Reply.{Reply}
 use Rattle.op_types.specs.declared.reply.Reply.TheVariants.{Created}
 use Rattle.table_rules.specs.Names.{commit_text}

@@ -1,5 +1,5 @@
 -- The law of a run: what holds of every legal completion of its journal.
-use Rattle.std.specs.Prelude.{◌≡◌, ℕ, List, [], Option}
+use Rattle.std.specs.Prelude.{ℕ, List, [], Option}
 use Rattle.edge_api.specs.declared.call.Tag.{Tag}
 use Rattle.edge_api.specs.Journal.{Moment, IsLegal, entries_of}
 use Rattle.op_types.specs.declared.statement.Statement.{Statement}
