@@ -2,11 +2,11 @@
 use Rattle.std.proofs.Common.{◌≡◌, ℕ, List, Result, IfSome, subst, sym}
 use Rattle.edge_api.specs.declared.call.Answer.{Answer}
 use Rattle.call_phases.specs.Phases.{Entries}
-use Rattle.committer.specs.declared.fault.Lost.{Lost}
-use Rattle.committer.specs.declared.fault.Won.{Won}
 use Rattle.call_phases.specs.Ending.{Ending}
 use Rattle.committer.specs.declared.judge.BodyFault.{BodyFault}
 use Rattle.committer.specs.declared.judge.Verdict.{Verdict}
+use Rattle.committer.specs.declared.fault.Lost.{Lost}
+use Rattle.committer.specs.declared.fault.Won.{Won}
 use Rattle.committer.specs.declared.stage.Stage.{Stage}
 use Rattle.committer.specs.declared.attempts.Attempts.{Attempts}
 use Rattle.committer.specs.Machine.{call_at, Leads}

@@ -1,5 +1,5 @@
 -- The attempts of a commit: optimistic concurrency on a log with put-if-absent. Each attempt is at the version after the one before.
-use Rattle.std.specs.Prelude.{◌≡◌, ◌⊎◌, ℕ, zero, suc, ◌+◌, ◌*◌, ◌-◌, nat_lt, Bool, List, [], ◌∷◌, ◌++◌, Result, Ok, Err, MatchBool}
+use Rattle.std.specs.Prelude.{ℕ, zero, suc, ◌+◌, ◌*◌, ◌-◌, nat_lt, Bool, List, [], ◌∷◌, ◌++◌, Result, Ok, Err, MatchBool}
 use Rattle.std.specs.Str.{bytes_eq}
 use Rattle.table_rules.specs.Names.{commit_text}
 use Rattle.call_phases.specs.Phases.{Entries, AtNow, AtGet, AtPutNew}

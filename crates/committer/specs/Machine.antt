@@ -1,5 +1,5 @@
 -- Where the attempts stand: the next call, what the entries still to come have to be, and how they end.
-use Rattle.std.specs.Prelude.{◌≡◌, ℕ, suc, ◌+◌, ◌*◌, List, [], ◌∷◌, ◌++◌, Option, Some, None, Bool, true, false, Result, Ok, Err}
+use Rattle.std.specs.Prelude.{◌≡◌, ℕ, suc, ◌+◌, ◌*◌, List, [], ◌∷◌, ◌++◌, Option, Some, None, Bool, true, false, Result}
 use Rattle.edge_api.specs.declared.call.Call.{Call}
 use Rattle.edge_api.specs.declared.call.Call.TheVariants.{Get, PutNew, Put, List as ListNames, Delete, Now, Wait}
 use Rattle.edge_api.specs.declared.call.Tag.{Tag}
@@ -9,8 +9,6 @@ use Rattle.call_phases.specs.Ending.{Ending}
 use Rattle.committer.specs.Attempts.{Terms, AtWinner, AtReadBack, AtCommitPut, IsOpenAt, FailsBy, LandsBy, AttemptsEnd}
 use Rattle.committer.specs.declared.judge.BodyFault.{BodyFault}
 use Rattle.committer.specs.declared.judge.Verdict.{Verdict}
-use Rattle.committer.specs.declared.fault.AttemptFault.{AttemptFault}
-use Rattle.committer.specs.declared.fault.Landed.{Landed}
 use Rattle.committer.specs.declared.fault.Lost.{Lost}
 use Rattle.committer.specs.declared.fault.Won.{Won}
 use Rattle.committer.specs.declared.progress.Progress.{Progress}

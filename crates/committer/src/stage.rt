@@ -20,12 +20,7 @@ pub struct Put {
 
 impl Put {
     /// The put of a version's commit with this text, and its call. The error is want of memory.
-    pub fn make(
-        alloc: Global,
-        version: u64,
-        text: Body,
-        now: u64,
-    ) -> Result<(Put, Call), NoMemory>
+    pub fn make(alloc: Global, version: u64, text: Body, now: u64) -> Result<(Put, Call), NoMemory>
         ensures version { IfOk result (λ made. made.0.commit.version ≡ version) }
         ensures text { IfOk result (λ made. made.0.text ≡ text) }
         ensures now { IfOk result (λ made. made.0.now ≡ now) }

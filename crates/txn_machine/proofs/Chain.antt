@@ -3,10 +3,12 @@ use Rattle.std.proofs.Common.{◌≡◌, ◌⊎◌, inl, inr, ℕ, zero, suc, �
 use Rattle.std.specs.Prelude.{nat_lt, Option, Some, None, MatchOption, MatchBool, IfSome, Result, Ok, Err}
 use Rattle.edge_api.specs.declared.call.Tag.{Tag}
 use Rattle.edge_api.specs.declared.actor.Fed.{Fed}
+use Rattle.edge_api.specs.declared.call.Listed.{Listed}
 use Rattle.row_base.specs.declared.row.Datum.{Datum}
 use Rattle.op_types.specs.declared.refusal.ObjectFault.{ObjectFault}
 use Rattle.op_types.specs.declared.refusal.Refusal.{Refusal}
 use Rattle.op_types.specs.declared.refusal.Refusal.TheVariants as refusal
+use Rattle.op_types.specs.fault.Feature.TheVariants.{Versions}
 use Rattle.op_types.specs.declared.reply.Reply.{Reply}
 use Rattle.op_types.specs.declared.reply.Reply.TheVariants.{Refused}
 use Rattle.table_rules.specs.Names.{data_text}
@@ -32,10 +34,11 @@ use Rattle.committer.proofs.Endings.{then_attempts_view}
 use Rattle.statement_calls.specs.declared.finish.Finish.{Finish}
 use Rattle.statement_calls.specs.declared.finish.Kept.{Kept}
 use Rattle.statement_calls.specs.declared.statement.TableStatement.{TableStatement}
+use Rattle.statement_calls.specs.Bounds.{version_limit}
 use Rattle.statement_calls.specs.Judging.{CommitPlan, Bodies, Judges}
 use Rattle.statement_calls.specs.Objects as law
 use Rattle.statement_calls.specs.Outcome.{refused, refusal_of_load, refusal_of_scan, refusal_of_put, refusal_of_attempt, IsOpen, Ends, Replies}
-use Rattle.statement_calls.specs.Answered.{retention, committed, Base, AtCommit, AfterPuts, Appends, AfterScan, Selects, AfterLoad, AtLoad}
+use Rattle.statement_calls.specs.Answered.{retention, committed, Base, base_of, AtCommit, AfterPuts, Appends, AfterScan, Selects, AfterLoad, AtLoad, LoadsFrom, Loads}
 use Rattle.txn_machine.specs.declared.commits.Commits.{Commits}
 use Rattle.txn_machine.specs.declared.files.Files.{Files}
 use Rattle.txn_machine.specs.declared.judge.CommitJudge.{CommitJudge}
@@ -47,6 +50,10 @@ use Rattle.txn_machine.specs.Machine.{ByLoad, ByScan, ByPut, ByAttempt, landed_a
 pub match_true : (b : Bool) (P Q : Type 0) → b ≡ true → P → MatchBool b P Q
 match_true true P Q is h = h
 match_true false P Q is h = cc
+
+pub match_false : (b : Bool) (P Q : Type 0) → b ≡ false → Q → MatchBool b P Q
+match_false true P Q is h = cc
+match_false false P Q is h = h
 
 pub match_none : {A : Type 0} (o : Option A) (P : Type 0) (Q : A → Type 0) → o ≡ None → P → MatchOption o P Q
 match_none None P Q is h = h
@@ -134,6 +141,17 @@ module _ (tag : Tag) (limit : ℕ) (out : Option Finish) where
       let told = gets_view commits_of wanted_commit commits_after law.next_commit law.apply_next (λ c. refl) (λ c text. commits_told c (law.apply_next (commits_of c) text)) (IsOpen out spare) fails after c es gets in
       let at : law.Commits → Option Kept → Type 0 = λ k o. AtLoad tag limit out statement start read (record { commits = k; spare = o }) es in
       subst (λ (o : Option Kept). at base.commits o) same (subst (λ (k : law.Commits). at k spare) from told)
+
+  -- the newest version is supported
+  pub loads_on : (statement : TableStatement) (start : ℕ) (l : List Listed) (kept : Option Kept) (v read : ℕ) (es : Entries) → nat_lt v version_limit ≡ true → read ≡ v
+      → LoadsFrom tag limit out statement start l kept read (base_of kept read) es → Loads tag limit out statement start l kept (Some v) es
+  loads_on statement start l kept v read es small same h =
+      match_true (nat_lt v version_limit) _ _ small (subst (λ (n : ℕ). LoadsFrom tag limit out statement start l kept n (base_of kept n) es) same h)
+
+  -- it isn't
+  pub loads_off : (statement : TableStatement) (start : ℕ) (l : List Listed) (kept : Option Kept) (v : ℕ) (es : Entries) → nat_lt v version_limit ≡ false
+      → Ends out kept (refusal.Unsupported Versions) es → Loads tag limit out statement start l kept (Some v) es
+  loads_off statement start l kept v es large h = match_false (nat_lt v version_limit) _ _ large h
 
   -- a commit that is needed isn't listed, unless memory was wanting
   pub no_log : (kept : Option Kept) (r s : Refusal) (es : Entries) → (r ≡ s) ⊎ (r ≡ refusal.NoMemory) → Ends out kept r es → Ends out kept refusal.NoMemory es ⊎ Ends out kept s es

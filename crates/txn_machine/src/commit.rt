@@ -42,8 +42,8 @@ fn refusal_of_attempt(fault: AttemptFault<Clash>) -> Refusal
 }
 
 /// The reply once the commit has landed.
-fn landed_after(read: Option<u64>, landed: &Landed) -> Reply
-    ensures { result ≡ landed_after read landed.now }
+fn landed_after(read: Option<u64>, landed: Landed) -> Reply
+    ensures { result ≡ landed_after read landed }
 {
     match read {
         None => Reply::Created,
@@ -75,7 +75,7 @@ impl Step for CommitStep {
 
     fn done(self, won: Won<CommitJudge>) -> Ready<Stage> {
         Stage::done(Finish {
-            reply: landed_after(self.read, &won.landed),
+            reply: landed_after(self.read, won.landed),
             kept: self.kept,
         })
     }

@@ -13,7 +13,7 @@ ghost use Rattle.txn_machine.specs.Machine.{call_of, left_of, is_settled, Rest};
 use crate::commits::{Base, kept_of};
 use crate::listing::{missing_for, newest_version};
 use crate::table::makes;
-use crate::{Commits, DataStep, Plan, ScanStep, Stage, Supported};
+use crate::{Commits, DataStep, ListLog, Plan, ScanStep, Stage, Supported};
 use call_phases::{CallFault, GetFault, Gets, ListNames, ReadClock, Ready, Step, go};
 use edge_api::{Listed, Listing};
 use op_types::{Feature, ObjectFault, Refusal, Statement};
@@ -100,7 +100,8 @@ impl Step for ClockStep {
                     kept,
                     start,
                 };
-                go(step, ListNames::new(prefix))
+                let names = ListNames::new(prefix);
+                go(step, ListLog { names })
             }
             Err(_) => Stage::refused(kept, Refusal::NoMemory),
         }
@@ -112,7 +113,7 @@ impl Step for ClockStep {
 }
 
 impl Step for ListStep {
-    type Part = ListNames;
+    type Part = ListLog;
 
     type Stage = Stage;
 
@@ -125,7 +126,7 @@ impl Step for ListStep {
 
     ghost most = { λ s. most_after_list };
 
-    fn stand(self, list: ListNames) -> Stage {
+    fn stand(self, list: ListLog) -> Stage {
         Stage::List(self, list)
     }
 

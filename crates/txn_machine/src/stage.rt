@@ -12,10 +12,10 @@ ghost use Rattle.txn_machine.specs.Place.{place_of};
 
 use crate::resume::Resumes;
 use crate::{
-    ClockStep, CommitJudge, CommitStep, Commits, DataStep, Files, ListStep, LoadStep, Plan,
+    ClockStep, CommitJudge, CommitStep, Commits, DataStep, Files, ListLog, ListStep, LoadStep, Plan,
     ScanStep,
 };
-use call_phases::{Gets, ListNames, Phase, Puts, ReadClock, Ready, Stages, feed};
+use call_phases::{Gets, Phase, Puts, ReadClock, Ready, Stages, feed};
 use committer::Attempts;
 use edge_api::Fed;
 use op_types::{Refusal, Reply, Statement};
@@ -25,7 +25,7 @@ use statement_calls::{Finish, Kept};
 #[derive(Drop)]
 pub enum Stage {
     Clock(ClockStep, ReadClock),
-    List(ListStep, ListNames),
+    List(ListStep, ListLog),
     Load(LoadStep, Gets<Commits>),
     Scan(ScanStep, Gets<Files>),
     Data(DataStep, Puts),

@@ -17,4 +17,4 @@ returns-in-Ok-clause-may c es out h =
     let is : c.in-Ok.prefix ≡ log_prefix = search rules in
     let next = AfterList self.plan.tag self.plan.limit out self.statement self.kept c.args.start in
     subst (λ (p : List ℕ). AtList (IsOpen out self.kept) p (λ rest. Ends out self.kept (refusal.Fault (called_list p)) rest) next es) is
-    (then_list (out ≡ None) (ByCall self.kept out) (IsOpen out self.kept) (λ f rest. Ends out self.kept (refusal_of_call f) rest) es inl (λ f q. (refl, q)) inr c.in-Ok.prefix next (s.0, c.new.ensures.begins es s.0 s.1, s.2))
+    (then_list (out ≡ None) (ByCall self.kept out) (IsOpen out self.kept) (λ f rest. Ends out self.kept (refusal_of_call f) rest) es inl (λ f q. (refl, q)) inr c.in-Ok.prefix next (s.0, c.new-names.ensures.begins es s.0 s.1, s.2))

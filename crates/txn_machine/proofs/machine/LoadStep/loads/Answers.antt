@@ -1,8 +1,8 @@
-use Rattle.std.proofs.Common.{rules, ◌≡◌, true, sym, subst, ℕ}
+use Rattle.std.proofs.Common.{rules, ◌≡◌, true, false, sym, subst, ℕ}
 use Rattle.std.specs.Prelude.{nat_lt, Option}
 use Rattle.statement_calls.specs.Bounds.{version_limit}
 use Rattle.statement_calls.specs.Answered.{Loads}
-use Rattle.txn_machine.proofs.Chain.{match_true}
+use Rattle.txn_machine.proofs.Chain.{loads_on, loads_off}
 use Rattle.txn_machine.proofs.machine.LoadStep.loads.Goals as goal
 
 pub returns-clause-may : goal.returns-clause-may
@@ -10,4 +10,4 @@ returns-clause-may c es out h =
     let a = c.args in
     let v = c.in-Some.version in
     let small : nat_lt v version_limit ≡ true = search rules in
-    subst (λ (n : Option ℕ). Loads a.plan.tag a.plan.limit out a.statement a.start a.listing.now a.kept n es) (sym c.in-Some.is) (match_true (nat_lt v version_limit) _ _ small (c.loads_from.ensures.may es out h))
+    subst (λ (n : Option ℕ). Loads a.plan.tag a.plan.limit out a.statement a.start a.listing.now a.kept n es) (sym c.in-Some.is) (loads_on a.plan.tag a.plan.limit out a.statement a.start a.listing.now a.kept v c.in-Some-make.read.version es small (search rules) (c.loads_from.ensures.may es out h))

@@ -13,8 +13,8 @@ pub returns-in-Ok-clause-may : goal.returns-in-Ok-clause-may
 returns-in-Ok-clause-may c es out h =
     let a = c.args in
     let s = c.go.ensures.may es out h in
-    let files : Files = record { alloc = a.plan.alloc; paths = c.new-paths.result; got = c.new-got.result } in
-    then_scan a.plan.tag a.plan.limit out (Some (kept_of a.spare a.read.version a.table)) a.read.version c.file_count.result a.table files es (search rules) (search rules) (s.0, c.new.ensures.begins es s.0 s.1, s.2)
+    let files : Files = record { alloc = a.plan.alloc; paths = c.new-in-Ok.result; got = c.new-in-Ok-2.result } in
+    then_scan a.plan.tag a.plan.limit out (Some (kept_of a.spare a.read.version a.table)) a.read.version c.file_count-live.result a.table files es (search rules) (search rules) (s.0, c.new.ensures.begins es s.0 s.1, s.2)
 
 pub returns-in-Err-clause-may : goal.returns-in-Err-clause-may
 returns-in-Err-clause-may c es out h =

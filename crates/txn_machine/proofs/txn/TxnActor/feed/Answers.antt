@@ -10,7 +10,7 @@ pub returns-clause-fed : goal.returns-clause-fed
 returns-clause-fed c old tag call asks =
     let self = c.args.self.now in
     let r = c.resume in
-    let new : Txn = record { tag = self.tag; stage = r.stage.new; pending = r.pending.new } in
+    let new : Txn = record { tag = self.tag; stage = r.new.stage; pending = r.new.pending } in
     let ready : IsReady new = record { call = r.ensures.ready; left = r.ensures.some; settled = r.ensures.settled } in
     let falls : left_of new.stage < left_of old.stage = subst (λ (s : Stage). left_of new.stage < left_of s) asks.stage r.ensures.falls in
     (fed_leads old self tag call c.args.answer new asks refl r.ensures.goes r.ensures.memory, falls, ready)
