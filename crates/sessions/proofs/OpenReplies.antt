@@ -99,7 +99,7 @@ refused_is f kept is = ap (λ (x : Finish). x.reply) (some_same f (refused kept 
 
 pub open_reply : (s : Stage) (c : Call) (f : Finish) → call_of s ≡ Some c → Rest s [] (Some f) → f.reply ≡ Refused refusal.NoMemory
 open_reply (stage.Clock s k) c f is h = open_steps (clock.RestAt k.stage) of_call.NoMemory (ByCall s.kept) (NextClock s) f (λ o. clock_open k.stage c o is) (refused_is f s.kept) h
-open_reply (stage.List s l) c f is h = open_steps (list.RestAt l.stage) of_call.NoMemory (ByCall s.kept) (NextList s) f (λ o. list_open l.stage c o is) (refused_is f s.kept) h
+open_reply (stage.List s l) c f is h = open_steps (list.RestAt l.names.stage) of_call.NoMemory (ByCall s.kept) (NextList s) f (λ o. list_open l.names.stage c o is) (refused_is f s.kept) h
 open_reply (stage.Load s g) c f is h =
     open_steps (gets.RestAt wanted_commit commits_after g.stage) of_get.NoMemory (ByLoad s.spare) (NextLoad s) f (λ o. gets_open wanted_commit commits_after g.stage c o (λ r name e. e) is) (refused_is f s.spare) h
 open_reply (stage.Scan s g) c f is h =
