@@ -3,7 +3,6 @@ use Rattle.std.proofs.Common.{◌≡◌, ◌⊎◌, inl, inr, ℕ, List, [], ap,
 use Rattle.std.specs.Prelude.{Option, Some, None, MatchOption, Result}
 use Rattle.edge_api.specs.declared.call.Call.{Call}
 use Rattle.edge_api.specs.declared.call.Listed.{Listed}
-use Rattle.op_types.specs.declared.refusal.Clash.{Clash}
 use Rattle.op_types.specs.declared.refusal.Refusal.TheVariants as refusal
 use Rattle.op_types.specs.declared.reply.Reply.TheVariants.{Refused}
 use Rattle.call_phases.specs.Phases.{Entries}

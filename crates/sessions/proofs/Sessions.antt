@@ -10,7 +10,7 @@ use Rattle.edge_api.specs.declared.call.Tag.{Tag}
 use Rattle.op_types.specs.declared.reply.Reply.{Reply}
 use Rattle.call_phases.specs.Phases.{Entries}
 use Rattle.statement_calls.specs.Bounds.{most_calls}
-use Rattle.txn_machine.specs.Machine.{Rest, left_of}
+use Rattle.txn_machine.specs.Machine.{left_of}
 use Rattle.txn_machine.specs.Txn as txn
 use Rattle.txn_machine.specs.declared.txn.Txn.{Txn}
 use Rattle.sessions.specs.declared.session.Session.{Session}

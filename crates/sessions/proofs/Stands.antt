@@ -4,7 +4,6 @@ use Rattle.std.specs.Prelude.{Option, Some, None, is_none, IfSome, if◌then◌e
 use Rattle.edge_api.specs.Actor.{Event, Made, Refused as Wanting, event_of}
 use Rattle.edge_api.specs.declared.actor.Fed.{Fed}
 use Rattle.edge_api.specs.declared.actor.Fed.TheVariants as fed
-use Rattle.edge_api.specs.declared.actor.Stage.{Stage as Place}
 use Rattle.edge_api.specs.declared.actor.Stage.TheVariants as place
 use Rattle.edge_api.specs.declared.call.Call.{Call}
 use Rattle.edge_api.specs.declared.call.Tag.{Tag}

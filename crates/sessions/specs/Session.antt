@@ -1,12 +1,12 @@
 -- A session: statements one after another under one actor's number.
-use Rattle.std.specs.Prelude.{◌≡◌, ◌≢◌, ◌⊎◌, ◌↔◌, Bool, true, false, ◌<◌, ◌≤◌, ℕ, ◌+◌, ◌*◌, length, List, [], ◌∷◌, ◌++◌, Option, Some, None, vec_capacity, IfSome}
+use Rattle.std.specs.Prelude.{◌≡◌, ◌⊎◌, Bool, true, false, ◌<◌, ◌≤◌, ℕ, ◌+◌, ◌*◌, length, List, [], ◌∷◌, ◌++◌, Option, Some, None, vec_capacity, IfSome}
 use Rattle.edge_api.specs.declared.call.Call.{Call}
 use Rattle.edge_api.specs.declared.call.Tag.{Tag}
 use Rattle.edge_api.specs.declared.actor.Stage.{Stage as Place}
 use Rattle.edge_api.specs.declared.actor.Stage.TheVariants as place
 use Rattle.edge_api.specs.declared.actor.Fed.{Fed}
 use Rattle.edge_api.specs.declared.actor.Fed.TheVariants as fed
-use Rattle.edge_api.specs.Actor.{Event, Made, Refused, entries_of_events}
+use Rattle.edge_api.specs.Actor.{Event, entries_of_events}
 use Rattle.op_types.specs.declared.reply.Reply.{Reply}
 use Rattle.op_types.specs.declared.reply.Reply.TheVariants.{Killed}
 use Rattle.op_types.specs.declared.statement.Statement.{Statement}

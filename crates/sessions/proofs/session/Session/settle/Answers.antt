@@ -1,4 +1,4 @@
-use Rattle.std.proofs.Common.{rules, inr, ◌≡◌, ◌≤◌, ◌+◌, ◌*◌, ℕ, length, Option, Some, None, sym, ◌∙◌, ap, subst, arith}
+use Rattle.std.proofs.Common.{rules, inr, ◌≡◌, ◌≤◌, ◌+◌, length, Option, Some, None, sym, ◌∙◌, ap, subst, arith}
 use Rattle.std.specs.Prelude.{vec_capacity, IfSome}
 use Rattle.edge_api.specs.declared.actor.Stage.TheVariants as place
 use Rattle.txn_machine.specs.Place.{place_of}
