@@ -6,7 +6,7 @@ ghost use Rattle.txn_machine.specs.Txn.{IsReady};
 use edge_api::{Actor, Body, Call, Fed, MemWorld, Name, Stage as Place, Step, Tag, World};
 use op_types::{Refusal, Reply, Statement, TableSpec};
 use row_base::{Column, Datum, Items, Kind, NoMemory, Rows, Text};
-use statement_calls::Finish;
+use statement_calls::{Finish, Kept};
 use std::alloc::{AllocError, Global};
 use std::test::Fail;
 use table_rules::{LogName, read_log_name};
@@ -110,39 +110,42 @@ fn turns(world: &mut MemWorld, txn: &mut Txn, text: &mut String) -> Result<(), A
     Ok(())
 }
 
-/// Notes the reply of a statement, or that it is open.
-fn note_end(text: &mut String, txn: Txn) -> Result<(), AllocError>
+/// Notes the reply of a statement, or that it is open. What it keeps.
+fn note_end(text: &mut String, txn: Txn) -> Result<Option<Kept>, AllocError>
     requires { IsReady txn }
 {
     if txn.pending.is_some() {
-        return text.push_str("open");
+        text.push_str("open")?;
+        return Ok(None);
     }
-    let Finish { reply, .. } = txn.finish();
-    note_reply(text, &reply)
+    let Finish { reply, kept } = txn.finish();
+    note_reply(text, &reply)?;
+    Ok(kept)
 }
 
 /// The statement of a number, which is to make its first call.
-fn begun(alloc: Global, number: u32, what: Statement) -> Txn
+fn begun(alloc: Global, number: u32, what: Statement, kept: Option<Kept>) -> Txn
     ensures { IsReady result }
 {
     let tag = Tag {
         actor: 1,
         statement: number,
     };
-    Txn::new(alloc, tag, what, 10, None)
+    Txn::new(alloc, tag, what, 10, kept)
 }
 
-/// The calls of a statement and its reply.
+/// The calls of a statement and its reply. It begins with what is kept, and leaves what it keeps itself.
 fn run(
     alloc: Global,
     world: &mut MemWorld,
     number: u32,
     what: Statement,
+    kept: &mut Option<Kept>,
 ) -> Result<String, AllocError> {
     let mut text = String::new(alloc);
-    let mut txn = begun(alloc, number, what);
+    let mut txn = begun(alloc, number, what, kept.take());
     turns(world, &mut txn, &mut text)?;
-    note_end(&mut text, txn)?;
+    *kept = note_end(&mut text, txn)?;
     Ok(text)
 }
 
@@ -212,9 +215,10 @@ fn is_answered(
     world: &mut MemWorld,
     number: u32,
     what: What,
+    kept: &mut Option<Kept>,
     want: &str,
 ) -> Result<bool, NoMemory> {
-    let told = run(alloc, world, number, statement(alloc, what)?)?;
+    let told = run(alloc, world, number, statement(alloc, what)?, kept)?;
     Ok(told.as_str() == want)
 }
 
@@ -247,15 +251,53 @@ const STATEMENTS: [(What, &str); 5] = [
     ),
 ];
 
-/// Makes the statements. Whether each has its calls and its reply.
+/// Makes the statements, each with nothing kept. Whether each has its calls and its reply.
 fn are_answered(alloc: Global, world: &mut MemWorld) -> Result<bool, NoMemory> {
     let mut all = true;
     let mut number: u32 = 1;
     for (what, want) in STATEMENTS {
-        all = is_answered(alloc, world, number, what, want)? && all;
+        all = is_answered(alloc, world, number, what, &mut None, want)? && all;
         number = number.saturating_add(1);
     }
     Ok(all)
+}
+
+/// Statements that each begin with what the one before has kept: the table that it loaded, so that its own commit is
+/// got by the next one.
+const FROM_KEPT: [(What, &str); 3] = [
+    (
+        What::Select,
+        "|now; list; get 0; get 1; get 2; get data; get data; rows of 2 in 2 of 2: 1 1 2 3",
+    ),
+    (
+        What::Insert(&[7]),
+        "|now; list; put data; now; !put 3; committed 3 from 2 by 1",
+    ),
+    (
+        What::Select,
+        "|now; list; get 3; get data; get data; get data; rows of 3 in 3 of 3: 1 1 2 3 7",
+    ),
+];
+
+/// Makes these statements, where each begins with what the one before has kept.
+fn are_answered_from_kept(alloc: Global, world: &mut MemWorld) -> Result<bool, NoMemory> {
+    let mut all = true;
+    let mut number: u32 = 6;
+    let mut kept = None;
+    for (what, want) in FROM_KEPT {
+        all = is_answered(alloc, world, number, what, &mut kept, want)? && all;
+        number = number.saturating_add(1);
+    }
+    Ok(all)
+}
+
+#[test]
+fn a_kept_table_saves_its_gets(rt: HostRuntime) -> Result<(), Fail> {
+    let alloc = rt.alloc();
+    let mut world = MemWorld::new(alloc, 1000);
+    assert!(rt; are_answered(alloc, &mut world)?);
+    assert!(rt; are_answered_from_kept(alloc, &mut world)?);
+    Ok(())
 }
 
 #[test]

@@ -7,7 +7,7 @@ use Rattle.std.specs.List.{list_all}
 use Rattle.std.specs.Int.{w64}
 use Rattle.std.specs.Prelude.{Option, Some, None, All, slice_get, option_and_then, if◌then◌else◌, nat_lt, ℤ, pos, negsuc, FitsSigned}
 use Rattle.edge_api.specs.declared.call.Tag.{Tag}
-use Rattle.edge_api.specs.Journal.{same_tag, entries_of}
+use Rattle.edge_api.specs.Journal.{Moment, IsLegal, same_tag, entries_of}
 use Rattle.edge_api.specs.World.{Grows}
 use Rattle.row_base.specs.declared.row.Datum.{Datum}
 use Rattle.row_base.specs.declared.row.Datum.TheVariants as datum
@@ -20,14 +20,15 @@ use Rattle.line_texts.specs.Numbers.{fits}
 use Rattle.line_texts.specs.Texts.{text_of_rows, rows_of_text, is_long, is_long_row}
 use Rattle.line_texts.specs.Laws.{RowsReadBack}
 use Rattle.call_phases.specs.Phases.{Entries}
-use Rattle.txn_machine.specs.Answered.{Answered}
+use Rattle.statement_calls.specs.declared.finish.Finish.{Finish}
+use Rattle.statement_calls.specs.Answered.{Answered}
 use Rattle.actor_core.specs.Entries.{of_actor, own}
 use Rattle.actor_core.proofs.Lists.{item_of, some_same, not_equal}
 use Rattle.actor_core.proofs.Owners.{own-append, own_among, same_tag-refl}
 use Rattle.actor_core.proofs.Pieces.{Told}
 use Rattle.sessions.specs.Session.{AllTagged, AllAnswered, AnsweredTo, plans_from}
 use Rattle.table_laws.specs.Runs as laws
-use Rattle.table_laws.specs.Lawful.{EachRunIsLawful}
+use Rattle.table_laws.specs.Lawful.{IsLawful, EachRunIsLawful}
 use Rattle.session_runs.specs.Run.{Program, IsPlain, IsLong, IsLongRow, AllReplied, IsSerial, Runs, scripts_of, counted, statement_of, reply_of}
 use Rattle.session_runs.proofs.Replies.{all_at}
 
@@ -64,10 +65,17 @@ none_before actor limit k (st ∷ sts) part (r ∷ rs) (inr h) t lt =
     let rest : own t h.1 ≡ [] = none_before actor limit (k + 1) sts h.1 rs h.5 t (omega (arith, lt)) in
     ap (own t) h.2 ∙ own-append t h.0 h.1 ∙ ap (λ (l : Entries). l ++ own t h.1) mine ∙ rest
 
+-- a statement has an outcome with this reply by its entries, and begins with nothing kept
+abbrev HasOutcome : ℕ → Tag → Option Statement → Entries → Option Reply → Type 0
+HasOutcome limit t st part reply = (out : Option Finish) × laws.IsAnsweredPart limit t None st part out × (laws.reply_in out ≡ reply)
+
+no_outcome : (limit : ℕ) (t : Tag) (part : Entries) (reply : Option Reply) → part ≡ [] → reply ≡ None → HasOutcome limit t None part reply
+no_outcome limit t part reply none is = (None, (none, refl), sym is)
+
 -- each statement is answered by the entries of its tag
 answered_at : (actor limit k : ℕ) (sts : List Statement) (part : Entries) (rs : List Reply) → AllAnswered false (plans_from actor limit k sts) part rs → (t : Tag) → t.actor ≡ actor → (j : ℕ) → t.statement ≡ k + j
-    → laws.IsAnsweredPart limit t None (slice_get sts j) (own t part) (slice_get rs j)
-answered_at actor limit k [] part rs h t is j at = ap (own t) h.0
+    → HasOutcome limit t (slice_get sts j) (own t part) (slice_get rs j)
+answered_at actor limit k [] part rs h t is j at = no_outcome limit t (own t part) (slice_get rs j) (ap (own t) h.0) (ap (λ (l : List Reply). slice_get l j) h.1)
 answered_at actor limit k (st ∷ sts) part [] h t is j at = absurd h
 answered_at actor limit k (st ∷ sts) part (r ∷ rs) (inl x) t is j at = absurd cc
 answered_at actor limit k (st ∷ sts) part (r ∷ rs) (inr h) t is zero at =
@@ -75,15 +83,17 @@ answered_at actor limit k (st ∷ sts) part (r ∷ rs) (inr h) t is zero at =
     let rest : own t h.1 ≡ [] = none_before actor limit (k + 1) sts h.1 rs h.5 t (omega (arith, at)) in
     let mine : own t part ≡ h.0 =
     ap (own t) h.2 ∙ own-append t h.0 h.1 ∙ ap (λ (l : Entries). l ++ own t h.1) (own_same t (record { actor = actor; statement = k }) h.0 h.3 here) ∙ ap (λ (l : Entries). h.0 ++ l) rest ∙ append-nil h.0 in
-    subst (λ (l : Entries). Answered t limit None st l (Some r)) (sym mine) (subst (λ (u : Tag). Answered u limit None st h.0 (Some r)) (sym here) h.4)
+    let finish : Finish = record { reply = r; kept = h.4.0 } in
+    let answered : Answered t limit None st h.0 (Some finish) = subst (λ (u : Tag). Answered u limit None st h.0 (Some finish)) (sym here) h.4.1 in
+    (Some finish, subst (λ (l : Entries). Answered t limit None st l (Some finish)) (sym mine) answered, refl)
 answered_at actor limit k (st ∷ sts) part (r ∷ rs) (inr h) t is (suc j) at =
     let first : own t h.0 ≡ [] = own_other t (record { actor = actor; statement = k }) h.0 h.3 (λ same. absurd (omega (arith, at, same))) in
     let theirs : own t part ≡ own t h.1 = ap (own t) h.2 ∙ own-append t h.0 h.1 ∙ ap (λ (l : Entries). l ++ own t h.1) first in
-    subst (λ (l : Entries). laws.IsAnsweredPart limit t None (slice_get sts j) l (slice_get rs j)) (sym theirs) (answered_at actor limit (k + 1) sts h.1 rs h.5 t is j (omega (arith, at)))
+    subst (λ (l : Entries). HasOutcome limit t (slice_get sts j) l (slice_get rs j)) (sym theirs) (answered_at actor limit (k + 1) sts h.1 rs h.5 t is j (omega (arith, at)))
 
 counted_at : (actor limit : ℕ) (sts : List Statement) (part : Entries) (rs : List Reply) → AllAnswered false (plans_from actor limit 1 sts) part rs → (t : Tag) → t.actor ≡ actor → (n : ℕ) → t.statement ≡ n
-    → laws.IsAnsweredPart limit t None (counted sts n) (own t part) (counted rs n)
-counted_at actor limit sts part rs h t is zero at = none_before actor limit 1 sts part rs h t (omega (arith, at))
+    → HasOutcome limit t (counted sts n) (own t part) (counted rs n)
+counted_at actor limit sts part rs h t is zero at = no_outcome limit t (own t part) None (none_before actor limit 1 sts part rs h t (omega (arith, at))) refl
 counted_at actor limit sts part rs h t is (suc j) at = answered_at actor limit 1 sts part rs h t is j (omega (arith, at))
 
 not_killed : (limit actor : ℕ) (sts : List Statement) (part : Entries) (rs : List Reply) → AnsweredTo None (plans_from actor limit 1 sts) part rs → AllAnswered false (plans_from actor limit 1 sts) part rs
@@ -92,8 +102,16 @@ not_killed limit actor sts part rs (false, stops, h) = h
 
 module _ (limit : ℕ) (scripts : List (List Statement)) (part : Entries) (replies : List (List Reply)) (all : AllReplied limit scripts part replies) where
   by_actor : (t : Tag) (o : Option (List Statement)) → slice_get scripts t.actor ≡ o → (g : Option (List Reply)) → slice_get replies t.actor ≡ g
-      → laws.IsAnsweredPart limit t None (option_and_then (λ sts. counted sts t.statement) o) (own t (of_actor t.actor part)) (option_and_then (λ rs. counted rs t.statement) g)
-  by_actor t None at g to = ap (own t) (all.none t.actor at)
+      → HasOutcome limit t (option_and_then (λ sts. counted sts t.statement) o) (own t (of_actor t.actor part)) (option_and_then (λ rs. counted rs t.statement) g)
+  by_actor t None at None to = no_outcome limit t (own t (of_actor t.actor part)) None (ap (own t) (all.none t.actor at)) refl
+  by_actor t None at (Some rs) to =
+      let lt = slice_get_within replies t.actor rs to in
+      let long = all.long in
+      let there = item_of scripts t.actor (omega (arith, lt, long)) in
+      absurd (none_some there.0 (sym at ∙ there.1))
+    where
+      none_some : (x : List Statement) → None ≡ Some x → ⊥
+      none_some x e = cc
   by_actor t (Some sts) at None to =
       let lt = slice_get_within scripts t.actor sts at in
       let long = all.long in
@@ -104,9 +122,9 @@ module _ (limit : ℕ) (scripts : List (List Statement)) (part : Entries) (repli
       none_some x e = cc
   by_actor t (Some sts) at (Some rs) to = counted_at t.actor limit sts (of_actor t.actor part) rs (not_killed limit t.actor sts (of_actor t.actor part) rs (all.each t.actor sts rs at to)) t refl t.statement refl
 
-  pub each_answered : laws.IsAnswered limit (statement_of scripts) (λ t. None) (reply_of replies) part
+  pub each_answered : (t : Tag) → HasOutcome limit t (statement_of scripts t) (own t part) (reply_of replies t)
   each_answered t =
-      subst (λ (l : Entries). laws.IsAnsweredPart limit t None (statement_of scripts t) l (reply_of replies t)) (sym (own_among t part))
+      subst (λ (l : Entries). HasOutcome limit t (statement_of scripts t) l (reply_of replies t)) (sym (own_among t part))
       (by_actor t (slice_get scripts t.actor) refl (slice_get replies t.actor) refl)
 
 -- where a tag's statement stands
@@ -174,13 +192,18 @@ grown_is (Some old) after part journal is now h =
     let none = some_same old [] is in
     sym (ap (λ (l : Entries). l ++ part) none) ∙ some_same (old ++ part) journal (sym h ∙ now)
 
+-- a law of runs, by what each statement came to
+lawful_by : EachRunIsLawful → (limit : ℕ) (script : Tag → Option Statement) (outcomes : Tag → Option Finish) (replies : Tag → Option Reply) (moments : List Moment) → IsLegal [] 0 moments → laws.IsRun limit script outcomes (entries_of moments)
+    → ((t : Tag) → laws.reply_in (outcomes t) ≡ replies t) → IsLawful script replies moments
+lawful_by lawful limit script outcomes replies moments legal run same = subst (λ (rs : Tag → Option Reply). IsLawful script rs moments) (λ i t. same t i) (lawful limit script outcomes moments legal run)
+
 pub is_serial : EachRunIsLawful → RowsReadBack → (p : Program) (before after : Told) (replies : List (List Reply)) → p.limit ≤ 1000000 → length p.sessions ≤ 64
     → All (λ s. length s ≤ 4096) p.sessions → All (λ s. All IsPlain s) p.sessions → Runs p before after replies → IsSerial p before after replies
 unfolding Runs IsSerial
 is_serial lawful back p before after replies small few short plain runs is_before journal is_after moments legal are =
     let scripts = scripts_of p in
     let part_is = grown_is before after runs.0 journal is_before is_after runs.1 in
-    let answered = subst (λ (l : Entries). laws.IsAnswered p.limit (statement_of scripts) (λ t. None) (reply_of replies) l) (part_is ∙ sym are) (each_answered p.limit scripts runs.0 replies runs.2) in
+    let answered = subst (λ (l : Entries). (t : Tag) → HasOutcome p.limit t (statement_of scripts t) (own t l) (reply_of replies t)) (part_is ∙ sym are) (each_answered p.limit scripts runs.0 replies runs.2) in
     let tags : (t : Tag) (st : Statement) → statement_of scripts t ≡ Some st → IsTag t = λ t st h.
     let f = found scripts t st h in
     let actor = slice_get_within scripts t.actor f.sts f.at in
@@ -191,5 +214,6 @@ is_serial lawful back p before after replies small few short plain runs is_befor
     let faithful : (t : Tag) (rows : List (List Datum)) → statement_of scripts t ≡ Some (Insert rows) → rows_of_text (text_of_rows rows) ≡ Some rows = λ t rows h.
     let f = found scripts t (Insert rows) h in
     back rows (long_rows rows (plain_of p.table p.sessions t.actor f.place f.sts (Insert rows) plain f.at f.there)) in
-    let run : laws.IsRun p.limit (statement_of scripts) (λ t. None) (reply_of replies) (entries_of moments) = record { answered = answered; kept = λ t. tt; limited = omega (arith, small); tags = tags; faithful = faithful } in
-    lawful p.limit (statement_of scripts) (λ t. None) (reply_of replies) moments legal run
+    let run : laws.IsRun p.limit (statement_of scripts) (λ t. (answered t).0) (entries_of moments) =
+    record { answered = λ t. (None, inl refl, (answered t).1); limited = omega (arith, small); tags = tags; faithful = faithful } in
+    lawful_by lawful p.limit (statement_of scripts) (λ t. (answered t).0) (reply_of replies) moments legal run (λ t. (answered t).2)

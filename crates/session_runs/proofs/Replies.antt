@@ -37,13 +37,13 @@ feeds_remain a b (e ∷ es) rest all fed h =
     subst (λ (l : Entries). Remains a l all) (sym (ap (λ (l : Entries). l ++ rest) (entries-append (e ∷ []) es) ∙ append_assoc (entries_of_events (e ∷ [])) (entries_of_events es) rest)) both
 
 -- nothing remains of one that is done
-done_now : (killed : Bool) (replies : List Reply) (now : Option Txn) (ps : List Numbered) → left_now now ≡ 0 → ((t : Txn) → now ≡ Some t → 0 < left_of t.plan t.stage) → RestBy killed replies now ps [] replies
+done_now : (killed : Bool) (replies : List Reply) (now : Option Txn) (ps : List Numbered) → left_now now ≡ 0 → ((t : Txn) → now ≡ Some t → 0 < left_of t.stage) → RestBy killed replies now ps [] replies
 done_now killed replies None ps none some = ([], sym (append-nil replies), (refl, refl))
 done_now killed replies (Some t) ps none some = let lt = some t refl in absurd (omega (arith, lt, none))
 
-some_left : (now : Option Txn) (n : ℕ) (later : List Statement) → IsReadyNow now n later → (t : Txn) → now ≡ Some t → 0 < left_of t.plan t.stage
+some_left : (now : Option Txn) (n : ℕ) (later : List Statement) → IsReadyNow now n later → (t : Txn) → now ≡ Some t → 0 < left_of t.stage
 some_left None n later h t is = cc
-some_left (Some x) n later h t is = let same : x ≡ t = some_same x t is in subst (λ (y : Txn). 0 < left_of y.plan y.stage) same h.2
+some_left (Some x) n later h t is = let same : x ≡ t = some_same x t is in subst (λ (y : Txn). 0 < left_of y.stage) same h.2
 
 stops_here : (kill : Option ℕ) → (killed : Bool) × Stops kill 0 killed
 stops_here None = (false, tt)

@@ -1,70 +1,109 @@
 -- A statement that still has a call to make has no other reply than want of memory.
-use Rattle.std.proofs.Common.{◌≡◌, ◌⊎◌, inl, inr, ℕ, List, [], ◌∷◌, sym, ◌∙◌, ap, subst}
-use Rattle.std.specs.Prelude.{Option, Some, None}
+use Rattle.std.proofs.Common.{◌≡◌, ◌⊎◌, inl, inr, ℕ, List, [], ap, subst}
+use Rattle.std.specs.Prelude.{Option, Some, None, MatchOption, Result}
 use Rattle.edge_api.specs.declared.call.Call.{Call}
-use Rattle.row_base.specs.declared.row.ScannedFile.{ScannedFile}
-use Rattle.op_types.specs.declared.refusal.Clash.{Clash}
+use Rattle.edge_api.specs.declared.call.Listed.{Listed}
 use Rattle.op_types.specs.declared.refusal.Refusal.TheVariants as refusal
-use Rattle.op_types.specs.declared.reply.Reply.{Reply}
 use Rattle.op_types.specs.declared.reply.Reply.TheVariants.{Refused}
 use Rattle.call_phases.specs.Phases.{Entries}
-use Rattle.call_phases.specs.Ending.{Ending, Open, Failed, Ended}
-use Rattle.committer.specs.declared.fault.AttemptFault.{AttemptFault}
-use Rattle.committer.specs.declared.fault.AttemptFault.TheVariants as fault
+use Rattle.call_phases.specs.Ending.{Ending, Open, Failed, ThenBy}
+use Rattle.call_phases.specs.Endings.{IsOpenEnd}
+use Rattle.call_phases.specs.Step.{Steps}
+use Rattle.call_phases.specs.Clock as clock
+use Rattle.call_phases.specs.List as list
+use Rattle.call_phases.specs.GetsAt as gets
+use Rattle.call_phases.specs.Puts as puts
+use Rattle.call_phases.specs.declared.fault.CallFault.{CallFault}
+use Rattle.call_phases.specs.declared.fault.CallFault.TheVariants as of_call
+use Rattle.call_phases.specs.declared.clock.ClockStage.{ClockStage}
+use Rattle.call_phases.specs.declared.clock.ClockStage.TheVariants as at_clock
+use Rattle.call_phases.specs.declared.list.ListStage.{ListStage}
+use Rattle.call_phases.specs.declared.list.ListStage.TheVariants as at_list
+use Rattle.call_phases.specs.declared.gets.GetFault.{GetFault}
+use Rattle.call_phases.specs.declared.gets.GetFault.TheVariants as of_get
+use Rattle.call_phases.specs.declared.gets.GetsStage.{GetsStage}
+use Rattle.call_phases.specs.declared.gets.GetsStage.TheVariants as at_get
+use Rattle.call_phases.specs.declared.puts.PutFault.{PutFault}
+use Rattle.call_phases.specs.declared.puts.PutFault.TheVariants as of_put
+use Rattle.call_phases.specs.declared.puts.PutsStage.{PutsStage}
+use Rattle.call_phases.specs.declared.puts.PutsStage.TheVariants as at_put
+use Rattle.call_phases.specs.declared.reader.Reader.{Ghosts}
+use Rattle.committer.specs.declared.fault.AttemptFault.TheVariants as of_attempt
+use Rattle.committer.specs.declared.fault.Lost.{Lost}
+use Rattle.committer.specs.declared.fault.Won.{Won}
 use Rattle.committer.specs.declared.progress.Progress.{Progress}
 use Rattle.committer.specs.declared.stage.Stage.{Stage as Attempt}
 use Rattle.committer.specs.declared.stage.Stage.TheVariants as attempt
-use Rattle.committer.specs.Attempts.{Lost, Won, IsOpenEnd}
+use Rattle.committer.specs.Attempts.{lost_by, IsOpenAt}
 use Rattle.committer.specs.Machine as attempts
-use Rattle.txn_machine.specs.declared.judge.CommitJudge.{CommitJudge}
-use Rattle.txn_machine.specs.declared.stage.Plan.{Plan}
+use Rattle.committer.specs.declared.judge.BodyFault.{BodyFault}
+use Rattle.committer.specs.declared.judge.Verdict.{Verdict}
+use Rattle.actor_core.proofs.Lists.{some_same}
+use Rattle.statement_calls.specs.declared.finish.Kept.{Kept}
+use Rattle.statement_calls.specs.declared.finish.Finish.{Finish}
+use Rattle.statement_calls.specs.Outcome.{refused}
 use Rattle.txn_machine.specs.declared.stage.Stage.{Stage}
 use Rattle.txn_machine.specs.declared.stage.Stage.TheVariants as stage
-use Rattle.txn_machine.specs.Judging.{Bodies, Judges}
-use Rattle.txn_machine.specs.Phases.{IsOpen, AtFiles}
-use Rattle.txn_machine.specs.Answered.{Selected, refusal_of}
-use Rattle.txn_machine.specs.Machine.{Rest, AfterAttempts, call_of, first_get}
+use Rattle.txn_machine.specs.Judging.{Makes, Says}
+use Rattle.txn_machine.specs.Machine.{Rest, call_of, ByCall, ByLoad, ByScan, ByPut, ByAttempt, NextClock, NextList, NextLoad, NextScan, NextData, NextCommit}
+use Rattle.txn_machine.specs.Readers.{wanted_commit, commits_after, wanted_file, files_after}
 
-same_reply : (r s : Reply) → Some r ≡ Some s → r ≡ s
-same_reply r s h = cc
+-- Phases: each is open at a call, where no entries follow
 
-open_is : (r : Reply) → IsOpen (Some r) → r ≡ Refused refusal.NoMemory
-open_is r (inl none) = cc
-open_is r (inr short) = same_reply r (Refused refusal.NoMemory) short
+clock_open : (s : ClockStage) (c : Call) (o : Ending CallFault ℕ) → clock.call_at s ≡ Some c → clock.RestAt s [] o → IsOpenEnd of_call.NoMemory o
+clock_open (at_clock.Asking r) c o is h = h
+clock_open (at_clock.Read t) c o is h = cc
+clock_open (at_clock.Failed f) c o is h = cc
 
-files_open : (paths : List (List ℕ)) (c : Call) (got : List ScannedFile) (read live : ℕ) (r : Reply) → first_get paths ≡ Some c → AtFiles (Some r) paths got (Selected read live (Some r)) [] → r ≡ Refused refusal.NoMemory
-files_open [] c got read live r is h = cc
-files_open (p ∷ ps) c got read live r is h = open_is r h
+list_open : (s : ListStage) (c : Call) (o : Ending CallFault (List Listed)) → list.call_at s ≡ Some c → list.RestAt s [] o → IsOpenEnd of_call.NoMemory o
+list_open (at_list.Asking prefix) c o is h = h
+list_open (at_list.Told names) c o is h = cc
+list_open (at_list.Failed f) c o is h = cc
 
-attempts_open : (p : Progress) (winners : List (List ℕ)) (j : CommitJudge) (s : Attempt Clash) (c : Call) (o : Ending (Lost CommitJudge Clash) (Won CommitJudge)) → attempts.call_at s ≡ Some c
-    → attempts.RestAt Bodies Judges p winners j s [] o → IsOpenEnd o j
-attempts_open p winners j (attempt.Clock r) c o is h = h
-attempts_open p winners j (attempt.Put put) c o is h = h
-attempts_open p winners j (attempt.ReadBack put) c o is h = h
-attempts_open p winners j (attempt.Winner w) c o is h = h
-attempts_open p winners j (attempt.Landed version now) c o is h = cc
-attempts_open p winners j (attempt.Failed f) c o is h = cc
+match_some : {A : Type 0} (o : Option A) (P Q : Type 0) (a : A) → o ≡ Some a → MatchOption o P (λ x. Q) → Q
+match_some None P Q a is h = cc
+match_some (Some x) P Q a is h = h
 
-after_open : (read : Option ℕ) (j : CommitJudge) (r : Reply) (o : Ending (Lost CommitJudge Clash) (Won CommitJudge)) → IsOpenEnd o j → AfterAttempts read (Some r) o → r ≡ Refused refusal.NoMemory
-after_open read j r Open ends h = open_is r h
-after_open read j r (Failed l) (inl is) h = cc
-after_open read j r (Failed l) (inr is) h =
-    let memory : l.fault ≡ fault.NoMemory = failed_is l (record { judge = j; fault = fault.NoMemory }) is in
-    same_reply r (Refused refusal.NoMemory) (h.1 ∙ ap (λ (f : AttemptFault Clash). Some (Refused (refusal_of f))) memory)
+gets_open : {R F : Type 0} {g : Ghosts R F} (wants : R → Option (List ℕ)) (after : R → List ℕ → Result R F) (s : GetsStage R F g) (c : Call) (o : Ending (GetFault F) R) → ((r : R) (name : List ℕ) → g.wants r ≡ Some name → wants r ≡ Some name)
+    → gets.call_at s ≡ Some c → gets.RestAt wants after s [] o → IsOpenEnd of_get.NoMemory o
+gets_open wants after (at_get.Getting w) c o same is h = match_some (wants w.reader) _ _ w.name (same w.reader w.name w.is) h
+gets_open wants after (at_get.Read r) c o same is h = cc
+gets_open wants after (at_get.Failed f) c o same is h = cc
+
+puts_open : (s : PutsStage) (c : Call) (o : Ending PutFault (Unit {0})) → puts.call_at s ≡ Some c → puts.RestAt s [] o → IsOpenEnd of_put.NoMemory o
+puts_open (at_put.Putting file left) c o is h = h
+puts_open at_put.Stored c o is h = cc
+puts_open (at_put.Failed f) c o is h = cc
+
+attempts_open : {J C : Type 0} (bodies : J → ℕ → Result (List ℕ) BodyFault → J → Type 0) (judges : J → List ℕ → Verdict C → J → Type 0) (p : Progress) (winners : List (List ℕ)) (j : J) (s : Attempt C) (c : Call) (o : Ending (Lost J C) (Won J)) → attempts.call_at s ≡ Some c
+    → attempts.RestAt bodies judges p winners j s [] o → IsOpenAt o j
+attempts_open bodies judges p winners j (attempt.Clock r) c o is h = h
+attempts_open bodies judges p winners j (attempt.Put put) c o is h = h
+attempts_open bodies judges p winners j (attempt.ReadBack put) c o is h = h
+attempts_open bodies judges p winners j (attempt.Winner w) c o is h = h
+attempts_open bodies judges p winners j (attempt.Landed version now) c o is h = cc
+attempts_open bodies judges p winners j (attempt.Failed f) c o is h = cc
+
+-- what a phase comes to that is open
+open_steps : {F X : Type 0} (phase : Entries → Ending F X → Type 0) (memory : F) (fails : Option Finish → F → Type 0) (next : Option Finish → X → Entries → Type 0) (f : Finish) → ((o : Ending F X) → phase [] o → IsOpenEnd memory o)
+    → (fails (Some f) memory → f.reply ≡ Refused refusal.NoMemory) → Steps phase fails next [] (Some f) → f.reply ≡ Refused refusal.NoMemory
+open_steps {F} {X} phase memory fails next f is_open wanting h = by h.0 (is_open h.0 h.1) h.2
   where
-    failed_is : (a b : Lost CommitJudge Clash) → ◌≡◌ {A = Ending (Lost CommitJudge Clash) (Won CommitJudge)} (Failed a) (Failed b) → a.fault ≡ b.fault
-    failed_is a b same = ap (λ (x : Lost CommitJudge Clash). x.fault) (inside a b same)
-      where
-        inside : (a b : Lost CommitJudge Clash) → ◌≡◌ {A = Ending (Lost CommitJudge Clash) (Won CommitJudge)} (Failed a) (Failed b) → a ≡ b
-        inside a b same = cc
-after_open read j r (Ended w rest) (inl is) h = cc
-after_open read j r (Ended w rest) (inr is) h = cc
+    by : (o : Ending F X) → IsOpenEnd memory o → ThenBy (Some f ≡ None) (fails (Some f)) (next (Some f)) o → f.reply ≡ Refused refusal.NoMemory
+    by o (inl is) after = let none : Some f ≡ None = subst (ThenBy (Some f ≡ None) (fails (Some f)) (next (Some f))) is after in cc
+    by o (inr is) after = wanting (subst (ThenBy (Some f ≡ None) (fails (Some f)) (next (Some f))) is after)
 
-pub open_reply : (p : Plan) (s : Stage) (c : Call) (r : Reply) → call_of s ≡ Some c → Rest p s [] (Some r) → r ≡ Refused refusal.NoMemory
-open_reply p (stage.Start s) c r is h = open_is r h
-open_reply p (stage.Listing l) c r is h = open_is r h
-open_reply p (stage.Loading l) c r is h = open_is r h
-open_reply p (stage.Files f) c r is h = files_open f.left.items c f.got.items f.read f.live r is h
-open_reply p (stage.Data d) c r is h = open_is r h
-open_reply p (stage.Attempting a) c r is h = after_open a.read a.attempts.judge r h.0 (attempts_open a.attempts.progress a.attempts.winners.items a.attempts.judge a.attempts.stage c h.0 is h.1) h.2
-open_reply p (stage.Done d) c r is h = cc
+refused_is : (f : Finish) (kept : Option Kept) → Some f ≡ Some (refused kept refusal.NoMemory) → f.reply ≡ Refused refusal.NoMemory
+refused_is f kept is = ap (λ (x : Finish). x.reply) (some_same f (refused kept refusal.NoMemory) is)
+
+pub open_reply : (s : Stage) (c : Call) (f : Finish) → call_of s ≡ Some c → Rest s [] (Some f) → f.reply ≡ Refused refusal.NoMemory
+open_reply (stage.Clock s k) c f is h = open_steps (clock.RestAt k.stage) of_call.NoMemory (ByCall s.kept) (NextClock s) f (λ o. clock_open k.stage c o is) (refused_is f s.kept) h
+open_reply (stage.List s l) c f is h = open_steps (list.RestAt l.names.stage) of_call.NoMemory (ByCall s.kept) (NextList s) f (λ o. list_open l.names.stage c o is) (refused_is f s.kept) h
+open_reply (stage.Load s g) c f is h =
+    open_steps (gets.RestAt wanted_commit commits_after g.stage) of_get.NoMemory (ByLoad s.spare) (NextLoad s) f (λ o. gets_open wanted_commit commits_after g.stage c o (λ r name e. e) is) (refused_is f s.spare) h
+open_reply (stage.Scan s g) c f is h =
+    open_steps (gets.RestAt wanted_file files_after g.stage) of_get.NoMemory (ByScan s.kept) (NextScan s) f (λ o. gets_open wanted_file files_after g.stage c o (λ r name e. e) is) (refused_is f s.kept) h
+open_reply (stage.Data s p) c f is h = open_steps (puts.RestAt p.stage) of_put.NoMemory (ByPut s.kept) (NextData s) f (λ o. puts_open p.stage c o is) (refused_is f s.kept) h
+open_reply (stage.Commit s a) c f is h =
+    open_steps (attempts.RestOf Makes Says a) (lost_by a.judge of_attempt.NoMemory) (ByAttempt s.kept) (NextCommit s) f (λ o. attempts_open Makes Says a.progress a.winners.items a.judge a.stage c o is) (refused_is f s.kept) h
+open_reply (stage.Done d) c f is h = cc

@@ -9,9 +9,9 @@ use Rattle.edge_api.specs.declared.call.Call.{Call}
 use Rattle.edge_api.specs.declared.call.Tag.{Tag}
 use Rattle.op_types.specs.declared.reply.Reply.{Reply}
 use Rattle.call_phases.specs.Phases.{Entries}
-use Rattle.txn_machine.specs.Machine.{Rest, left_of}
+use Rattle.statement_calls.specs.Bounds.{most_calls}
+use Rattle.txn_machine.specs.Machine.{left_of}
 use Rattle.txn_machine.specs.Txn as txn
-use Rattle.txn_machine.specs.declared.stage.Plan.{Plan}
 use Rattle.txn_machine.specs.declared.txn.Txn.{Txn}
 use Rattle.sessions.specs.declared.session.Session.{Session}
 use Rattle.sessions.specs.Session.{Numbered, AllTagged, later_plans, RestNow, RestBy, Remains, RemainsAfter, Stops, IsAlive, HasCalls, count_of, Started, Begins, IsDone, AllAnswered, AsksNow, Asks, left, left_now}
@@ -36,15 +36,13 @@ asked old tag call new t h at = asked_now old tag call t old.current new.current
 event_now : (killed : Bool) (o t : Txn) (event : Event) (ps : List Numbered) (es : Entries) (rs : List Reply) → txn.Goes o event t → RestNow killed (Some t) ps es rs → RestNow killed (Some o) ps (entries_of_events (event ∷ []) ++ es) rs
 event_now killed o t event ps es [] goes h = absurd h
 event_now killed o t (Made e) ps es (r ∷ rs) goes (inl x) =
-    inl (x.0, (x.1.0, x.1.1, (goes.1, subst (λ (p : Plan). AllTagged p.tag es) goes.0 x.1.2)), goes.2 es None (subst (λ (p : Plan). Rest p t.stage es None) goes.0 x.2))
+    inl (x.0, (x.1.0, x.1.1, (goes.1, subst (λ (g : Tag). AllTagged g es) goes.0 x.1.2)), goes.2 es None x.2)
 event_now killed o t (Made e) ps es (r ∷ rs) goes (inr h) =
-    inr (e ∷ h.0, h.1, ap (λ (l : Entries). e ∷ l) h.2, (goes.1, subst (λ (p : Plan). AllTagged p.tag h.0) goes.0 h.3), goes.2 h.0 (Some r) (subst (λ (p : Plan). Rest p t.stage h.0 (Some r)) goes.0 h.4), h.5)
-event_now killed o t Refused ps es (r ∷ rs) goes (inl x) =
-    let ends = goes.2 es None (subst (λ (p : Plan). Rest p t.stage es None) goes.0 x.2) in
-    inl (x.0, (x.1.0, x.1.1, subst (λ (p : Plan). AllTagged p.tag es) goes.0 x.1.2), ends.1)
+    inr (e ∷ h.0, h.1, ap (λ (l : Entries). e ∷ l) h.2, (goes.1, subst (λ (g : Tag). AllTagged g h.0) goes.0 h.3), (h.4.0, goes.2 h.0 (Some (record { reply = r; kept = h.4.0 })) h.4.1), h.5)
+event_now killed o t Refused ps es (r ∷ rs) goes (inl x) = inl (x.0, (x.1.0, x.1.1, subst (λ (g : Tag). AllTagged g es) goes.0 x.1.2), (goes.2 es None x.2).1)
 event_now killed o t Refused ps es (r ∷ rs) goes (inr h) =
-    let ends = goes.2 h.0 (Some r) (subst (λ (p : Plan). Rest p t.stage h.0 (Some r)) goes.0 h.4) in
-    inr (h.0, h.1, h.2, subst (λ (p : Plan). AllTagged p.tag h.0) goes.0 h.3, ends.1, h.5)
+    let ends = goes.2 h.0 (Some (record { reply = r; kept = h.4.0 })) h.4.1 in
+    inr (h.0, h.1, h.2, subst (λ (g : Tag). AllTagged g h.0) goes.0 h.3, (h.4.0, ends.1), h.5)
 
 pub event_rest : (killed : Bool) (old : Session) (tag : Tag) (call : Call) (self : Session) (o t : Txn) (event : Event) (es : Entries) (all : List Reply) → Asks old tag call self → old.current ≡ Some o → txn.Goes o event t
     → RestBy killed self.replies.items (Some t) (later_plans self) es all → RestBy killed old.replies.items old.current (later_plans old) (entries_of_events (event ∷ []) ++ es) all
@@ -79,11 +77,11 @@ calls_now (Some n) (Some t) tag call new h alive = alive
 pub has_calls : (old : Session) (tag : Tag) (call : Call) (self : Session) → Asks old tag call self → HasCalls self.kill
 has_calls old tag call self a = subst HasCalls (sym a.kill) (calls_now old.kill old.current tag call self.current a.current a.ready.alive)
 
-pub event_falls : (old : Session) (tag : Tag) (call : Call) (self new : Session) (o t : Txn) → Asks old tag call self → old.current ≡ Some o → left_of t.plan t.stage < left_of o.plan o.stage
-    → left new ≤ length self.later.items * (3 * self.limit + 2097201) + left_of t.plan t.stage → left new < left old
+pub event_falls : (old : Session) (tag : Tag) (call : Call) (self new : Session) (o t : Txn) → Asks old tag call self → old.current ≡ Some o → left_of t.stage < left_of o.stage
+    → left new ≤ length self.later.items * (1 + most_calls) + left_of t.stage → left new < left old
 event_falls old tag call self new o t a is falls most =
-    let later : length self.later.items * (3 * self.limit + 2097201) ≡ length old.later.items * (3 * old.limit + 2097201) = cc (a.later, a.limit) in
-    let now : left_now old.current ≡ left_of o.plan o.stage = ap left_now is in
+    let later : length self.later.items * (1 + most_calls) ≡ length old.later.items * (1 + most_calls) = cc (a.later) in
+    let now : left_now old.current ≡ left_of o.stage = ap left_now is in
     omega (arith, later, now)
 
 -- a statement that is begun counts no more than before
@@ -95,7 +93,7 @@ begun_left a b n k l x most sum =
 started_answered : (killed : Bool) (p : Numbered) (later : List Numbered) (t : Txn) (es : Entries) (rs : List Reply) → Started p t → RestNow killed (Some t) later es rs → AllAnswered killed (p ∷ later) es rs
 started_answered killed p later t es [] s h = absurd h
 started_answered killed p later t es (r ∷ rs) s (inl x) = inl (x.0, (x.1.0, x.1.1, subst (λ (g : Tag). AllTagged g es) s.tag x.1.2), s.begins es None x.2)
-started_answered killed p later t es (r ∷ rs) s (inr h) = inr (h.0, h.1, h.2, subst (λ (g : Tag). AllTagged g h.0) s.tag h.3, s.begins h.0 (Some r) h.4, h.5)
+started_answered killed p later t es (r ∷ rs) s (inr h) = inr (h.0, h.1, h.2, subst (λ (g : Tag). AllTagged g h.0) s.tag h.3, (h.4.0, s.begins h.0 (Some (record { reply = r; kept = h.4.0 })) h.4.1), h.5)
 
 -- a statement that has begun
 begun_answered : (killed : Bool) (ps later : List Numbered) (now : Option Txn) (es : Entries) (rs : List Reply) → Begins ps later now → RestNow killed now later es rs → AllAnswered killed ps es rs
@@ -112,5 +110,5 @@ first_answered killed ps later now replies es all none begins h =
 pub settled : (killed : Bool) (t : Txn) (ps later : List Numbered) (now : Option Txn) (replies new : List Reply) (es : Entries) (all : List Reply) → Begins ps later now → IsDone t replies new → RestBy killed new now later es all
     → RestBy killed replies (Some t) ps es all
 settled killed t ps later now replies new es all begins given h =
-    let r = given.reply in
-    (r ∷ h.0, h.1 ∙ ap (λ (l : List Reply). l ++ h.0) given.last ∙ append_assoc replies (r ∷ []) h.0, inr ([], es, refl, tt, given.rest, begun_answered killed ps later now es h.0 begins h.2))
+    let r = given.finish.reply in
+    (r ∷ h.0, h.1 ∙ ap (λ (l : List Reply). l ++ h.0) given.last ∙ append_assoc replies (r ∷ []) h.0, inr ([], es, refl, tt, (given.finish.kept, given.rest), begun_answered killed ps later now es h.0 begins h.2))

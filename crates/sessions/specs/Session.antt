@@ -1,19 +1,22 @@
 -- A session: statements one after another under one actor's number.
-use Rattle.std.specs.Prelude.{◌≡◌, ◌≢◌, ◌⊎◌, ◌↔◌, Bool, true, false, ◌<◌, ◌≤◌, ℕ, ◌+◌, ◌*◌, length, List, [], ◌∷◌, ◌++◌, Option, Some, None, vec_capacity, IfSome}
+use Rattle.std.specs.Prelude.{◌≡◌, ◌⊎◌, Bool, true, false, ◌<◌, ◌≤◌, ℕ, ◌+◌, ◌*◌, length, List, [], ◌∷◌, ◌++◌, Option, Some, None, vec_capacity, IfSome}
 use Rattle.edge_api.specs.declared.call.Call.{Call}
 use Rattle.edge_api.specs.declared.call.Tag.{Tag}
 use Rattle.edge_api.specs.declared.actor.Stage.{Stage as Place}
 use Rattle.edge_api.specs.declared.actor.Stage.TheVariants as place
 use Rattle.edge_api.specs.declared.actor.Fed.{Fed}
 use Rattle.edge_api.specs.declared.actor.Fed.TheVariants as fed
-use Rattle.edge_api.specs.Actor.{Event, Made, Refused, entries_of_events}
+use Rattle.edge_api.specs.Actor.{Event, entries_of_events}
 use Rattle.op_types.specs.declared.reply.Reply.{Reply}
 use Rattle.op_types.specs.declared.reply.Reply.TheVariants.{Killed}
 use Rattle.op_types.specs.declared.statement.Statement.{Statement}
 use Rattle.call_phases.specs.Phases.{Entries}
-use Rattle.txn_machine.specs.Answered.{Answered}
+use Rattle.statement_calls.specs.declared.finish.Kept.{Kept}
+use Rattle.statement_calls.specs.declared.finish.Finish.{Finish}
+use Rattle.statement_calls.specs.Answered.{Answered}
+use Rattle.statement_calls.specs.Bounds.{most_calls}
 use Rattle.txn_machine.specs.Machine.{Rest, left_of}
-use Rattle.txn_machine.specs.Place.{place_of, IsCallAt}
+use Rattle.txn_machine.specs.Place.{place_of}
 use Rattle.txn_machine.specs.Txn as txn
 use Rattle.txn_machine.specs.declared.txn.Txn.{Txn}
 use Rattle.sessions.specs.declared.session.Session.{Session}
@@ -35,6 +38,10 @@ abbrev pub AllTagged : Tag → Entries → Type 0
 AllTagged tag [] = Unit {0}
 AllTagged tag (e ∷ es) = (e.tag ≡ tag) × AllTagged tag es
 
+-- the entries give the statement this reply. Each statement begins with nothing kept, and what it keeps itself is not asked
+abbrev pub IsAnsweredWith : Numbered → Entries → Reply → Type 0
+IsAnsweredWith p es r = (kept : Option Kept) × Answered p.tag p.limit None p.statement es (Some (record { reply = r; kept = kept }))
+
 -- the session ends within the statement: its reply says so, and is the last
 abbrev pub IsKilled : Tag → Reply → List Reply → Entries → Type 0
 IsKilled tag r rs es = (r ≡ Killed) × (rs ≡ []) × AllTagged tag es
@@ -47,7 +54,7 @@ AllAnswered killed (p ∷ ps) es [] = ⊥
 AllAnswered killed (p ∷ ps) es (r ∷ rs) =
     ((killed ≡ true) × IsKilled p.tag r rs es × Answered p.tag p.limit None p.statement es None)
     ⊎ ((own : Entries) × (rest : Entries) × (es ≡ own ++ rest) × AllTagged p.tag own
-    × Answered p.tag p.limit None p.statement own (Some r) × AllAnswered killed ps rest rs)
+    × IsAnsweredWith p own r × AllAnswered killed ps rest rs)
 
 -- whether a session with so many entries is killed: where it has the number after which it is to be, and no session has more
 abbrev pub Stops : Option ℕ → ℕ → Bool → Type 0
@@ -64,13 +71,17 @@ AnsweredTo kill ps es rs = (killed : Bool) × Stops kill (length es) killed × A
 abbrev pub later_plans : Session → List Numbered
 later_plans s = plans_from s.actor s.limit s.next s.later.items
 
+-- the entries still to come give the statement under way this reply
+abbrev pub RestWith : Txn → Entries → Reply → Type 0
+RestWith t es r = (kept : Option Kept) × Rest t.stage es (Some (record { reply = r; kept = kept }))
+
 -- what the entries still to come have to be, by the replies still to come
 abbrev pub RestNow : Bool → Option Txn → List Numbered → Entries → List Reply → Type 0
 RestNow killed None ps es rs = (es ≡ []) × (rs ≡ [])
 RestNow killed (Some t) ps es [] = ⊥
 RestNow killed (Some t) ps es (r ∷ rs) =
-    ((killed ≡ true) × IsKilled t.plan.tag r rs es × Rest t.plan t.stage es None)
-    ⊎ ((own : Entries) × (rest : Entries) × (es ≡ own ++ rest) × AllTagged t.plan.tag own × Rest t.plan t.stage own (Some r) × AllAnswered killed ps rest rs)
+    ((killed ≡ true) × IsKilled t.tag r rs es × Rest t.stage es None)
+    ⊎ ((own : Entries) × (rest : Entries) × (es ≡ own ++ rest) × AllTagged t.tag own × RestWith t own r × AllAnswered killed ps rest rs)
 
 -- what the entries still to come have to be, by all the replies in the end
 abbrev pub RestBy : Bool → List Reply → Option Txn → List Numbered → Entries → List Reply → Type 0
@@ -102,13 +113,13 @@ pub record Goes (old : Session) (event : Event) (new : Session) : Type 0 where
 -- a statement is under way and makes a call next, or all are done
 abbrev pub IsReadyNow : Option Txn → ℕ → List Statement → Type 0
 IsReadyNow None actor later = later ≡ []
-IsReadyNow (Some t) actor later = txn.IsReady t × (t.plan.tag.actor ≡ actor) × (0 < left_of t.plan t.stage)
+IsReadyNow (Some t) actor later = txn.IsReady t × (t.tag.actor ≡ actor) × (0 < left_of t.stage)
 
 -- the statement under way has the number behind so many replies and before that of the next one, and has no more calls left than a new one
 abbrev pub IsCounted : Option Txn → ℕ → ℕ → Type 0
 IsCounted None replies next = Unit {0}
-IsCounted (Some t) replies next = (t.plan.tag.statement + 1 ≡ next) × (t.plan.tag.statement ≡ replies + 1)
-    × (left_of t.plan t.stage ≤ 3 * t.plan.limit + 2097200)
+IsCounted (Some t) replies next = (t.tag.statement + 1 ≡ next) × (t.tag.statement ≡ replies + 1)
+    × (left_of t.stage ≤ most_calls)
 
 -- how many statements are under way
 abbrev pub count_now : Option Txn → ℕ
@@ -177,24 +188,24 @@ pub record Asks (old : Session) (tag : Tag) (call : Call) (new : Session) : Type
 -- how many answers the statement under way takes at most
 abbrev pub left_now : Option Txn → ℕ
 left_now None = 0
-left_now (Some t) = left_of t.plan t.stage
+left_now (Some t) = left_of t.stage
 
 -- how many answers a session takes at most
 abbrev pub left : Session → ℕ
-left s = length s.later.items * (3 * s.limit + 2097201) + left_now s.current
+left s = length s.later.items * (1 + most_calls) + left_now s.current
 
 -- the statement of the first is begun: what remains of it is its answer
 pub record Started (p : Numbered) (t : Txn) : Type 0 where
-  pub tag : t.plan.tag ≡ p.tag
+  pub tag : t.tag ≡ p.tag
   pub ready : txn.IsReady t
-  pub begins : (es : Entries) (reply : Option Reply) → Rest t.plan t.stage es reply → Answered p.tag p.limit None p.statement es reply
-  pub left : left_of t.plan t.stage ≤ 3 * p.limit + 2097200
+  pub begins : (es : Entries) (out : Option Finish) → Rest t.stage es out → Answered p.tag p.limit None p.statement es out
+  pub left : left_of t.stage ≤ most_calls
 
 -- the statement that is done has its reply, which is put behind the others
 pub record IsDone (t : Txn) (old new : List Reply) : Type 0 where
-  pub reply : Reply
-  pub rest : Rest t.plan t.stage [] (Some reply)
-  pub last : new ≡ old ++ reply ∷ []
+  pub finish : Finish
+  pub rest : Rest t.stage [] (Some finish)
+  pub last : new ≡ old ++ finish.reply ∷ []
 
 -- the first of the later statements is begun, if there is one
 abbrev pub Begins : List Numbered → List Numbered → Option Txn → Type 0
@@ -203,17 +214,17 @@ Begins old new (Some t) = (p : Numbered) × (old ≡ p ∷ new) × Started p t
 
 -- a statement with the number, before that of the next one: it is done already, or is to make its first call
 pub record IsNew (number next : ℕ) (t : Txn) : Type 0 where
-  pub is : t.plan.tag.statement ≡ number
-  pub next_is : t.plan.tag.statement + 1 ≡ next
-  pub most : left_of t.plan t.stage ≤ 3 * t.plan.limit + 2097200
+  pub is : t.tag.statement ≡ number
+  pub next_is : t.tag.statement + 1 ≡ next
+  pub most : left_of t.stage ≤ most_calls
   pub stands : IfSome t.pending (λ call. place_of t.stage ≡ place.Between)
 
 -- the statement has its reply, and more may have theirs
 pub record HasEnded (t : Txn) (before after : List Reply) : Type 0 where
-  pub reply : Reply
-  pub rest : Rest t.plan t.stage [] (Some reply)
+  pub finish : Finish
+  pub rest : Rest t.stage [] (Some finish)
   pub more : List Reply
-  pub all : after ≡ before ++ reply ∷ more
+  pub all : after ≡ before ++ finish.reply ∷ more
 
 -- the same statement goes on, or it has its reply and the other one is new
 abbrev pub GoesOnBy : Txn → List Reply → Txn → List Reply → Type 0

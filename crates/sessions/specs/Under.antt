@@ -7,7 +7,8 @@ use Rattle.edge_api.specs.Actor.{Event, Made, Refused as Wanting}
 use Rattle.op_types.specs.declared.refusal.Refusal.TheVariants.{NoMemory}
 use Rattle.op_types.specs.declared.reply.Reply.{Reply}
 use Rattle.op_types.specs.declared.reply.Reply.TheVariants.{Refused}
-use Rattle.txn_machine.specs.Place.{place_of, IsCallAt}
+use Rattle.statement_calls.specs.Place.{IsCallAt}
+use Rattle.txn_machine.specs.Place.{place_of, IsWithin}
 use Rattle.txn_machine.specs.declared.txn.Txn.{Txn}
 
 -- the statement under way, and where the session stands in it
@@ -18,19 +19,12 @@ pub record Under : Type 0 where
 -- the statement under way, by its tag and its place
 abbrev pub under : Option Txn → Option Under
 under None = None
-under (Some t) = Some (record { tag = t.plan.tag; place = place_of t.stage })
+under (Some t) = Some (record { tag = t.tag; place = place_of t.stage })
 
 -- the statement under way, if there is one, and the replies so far: one for each statement before it
 pub record Progress : Type 0 where
   pub now : Option Under
   pub replies : List Reply
-
--- after the first call of the statement and before its end
-abbrev pub IsWithin : Place → Type 0
-IsWithin place.Between = ⊥
-IsWithin place.Running = Unit {0}
-IsWithin place.Attempt = Unit {0}
-IsWithin place.Done = ⊥
 
 -- the statement of the tag is under way
 abbrev pub IsStill : Tag → Option Under → Type 0

@@ -2,6 +2,7 @@
 ghost use Rattle.std.specs.Prelude.{◌≡◌, ◌<◌, ◌≤◌, ◌+◌, ◌*◌, ◌++◌, ◌∷◌, ℕ, length, List, [], Option, Some, None, Bool, true, if◌then◌else◌, IfOk, IfSome, IsSome, IsTrue, IsFalse, vec_capacity};
 ghost use Rattle.call_phases.specs.Phases.{Entries};
 ghost use Rattle.op_types.specs.declared.reply.Reply.{Reply as AReply};
+ghost use Rattle.statement_calls.specs.Bounds.{most_calls};
 ghost use Rattle.txn_machine.specs.Machine.{left_of};
 ghost use Rattle.txn_machine.specs.Place.{place_of};
 ghost use Rattle.txn_machine.specs.Txn as txn_specs;
@@ -53,14 +54,13 @@ fn take_first(
     Some((tag, statement))
 }
 
-/// A statement that is still to make its first call.
+/// A statement that is still to make its first call. It begins with no kept table, so it gets every commit of its version.
 fn begin_statement(alloc: Global, tag: Tag, statement: Statement, limit: u32) -> Txn
     requires { IsLimit limit }
     ensures started { Started (record { tag = tag; statement = statement; limit = limit }) result }
-    ensures limit { result.plan.limit ≡ limit }
     ensures first { IfSome result.pending (λ call. place_of result.stage ≡ place.Between) }
 {
-    Txn::new(alloc, tag, statement, limit)
+    Txn::new(alloc, tag, statement, limit, None)
 }
 
 /// Begins the first of the later statements, if there is one.
@@ -77,10 +77,10 @@ fn begin(
     ensures fewer { count_now result + length later.new.items ≡ length later.old.items }
     ensures numbers { next.new + length later.new.items < 4294967296 }
     ensures ready { IfSome result txn_specs.IsReady }
-    ensures actor { IfSome result (λ t. t.plan.tag.actor ≡ actor) }
+    ensures actor { IfSome result (λ t. t.tag.actor ≡ actor) }
     ensures last { result ≡ None → later.new.items ≡ [] }
     ensures fresh { IfSome result (IsNew next.old next.new) }
-    ensures left { left_now result ≤ count_now result * (3 * limit + 2097201) }
+    ensures left { left_now result ≤ count_now result * (1 + most_calls) }
 {
     let (tag, statement) = take_first(actor, next, later)?;
     Some(begin_statement(alloc, tag, statement, limit))
@@ -254,7 +254,7 @@ impl Session {
         requires room { length self.old.replies.items + 1 + length self.old.later.items ≤ vec_capacity self.old.replies }
         requires numbers { self.old.next + length self.old.later.items < 4294967296 }
         ensures ready { IfSome result txn_specs.IsReady }
-        ensures tag { IfSome result (λ t. t.plan.tag.actor ≡ self.old.actor) }
+        ensures tag { IfSome result (λ t. t.tag.actor ≡ self.old.actor) }
         ensures actor { self.new.actor ≡ self.old.actor }
         ensures limit { self.new.limit ≡ self.old.limit }
         ensures kill { self.new.kill ≡ self.old.kill }
@@ -265,7 +265,7 @@ impl Session {
         ensures last { result ≡ None → self.new.later.items ≡ [] }
         ensures replied { IsDone done self.old.replies.items self.new.replies.items }
         ensures fresh { IfSome result (IsNew self.old.next self.new.next) }
-        ensures left { left_now result ≤ count_now result * (3 * self.old.limit + 2097201) }
+        ensures left { left_now result ≤ count_now result * (1 + most_calls) }
         ensures turns { (killed : Bool) (es : Entries) (all : List AReply) → RestBy killed self.new.replies.items result (later_plans self.new) es all → RestBy killed self.old.replies.items (Some done) (later_plans self.old) es all }
     {
         add_reply(&mut self.replies, done);
@@ -281,7 +281,7 @@ impl Session {
     /// Goes on with a statement, or where it has its reply with the next.
     fn settle(&mut self, txn: Txn)
         requires ready { txn_specs.IsReady txn }
-        requires actor { txn.plan.tag.actor ≡ self.old.actor }
+        requires actor { txn.tag.actor ≡ self.old.actor }
         requires limit { IsLimit self.old.limit }
         requires none { self.old.current ≡ None }
         requires room { length self.old.replies.items + 1 + length self.old.later.items ≤ vec_capacity self.old.replies }
@@ -292,7 +292,7 @@ impl Session {
         ensures actor { self.new.actor ≡ self.old.actor }
         ensures kill { self.new.kill ≡ self.old.kill }
         ensures settles { (killed : Bool) (es : Entries) (all : List AReply) → RestBy killed self.new.replies.items self.new.current (later_plans self.new) es all → RestBy killed self.old.replies.items (Some txn) (later_plans self.old) es all }
-        ensures falls { left self.new ≤ length self.old.later.items * (3 * self.old.limit + 2097201) + left_of txn.plan txn.stage }
+        ensures falls { left self.new ≤ length self.old.later.items * (1 + most_calls) + left_of txn.stage }
     {
         let mut txn = txn;
         'turns: while txn.pending.is_none() {

@@ -4,25 +4,27 @@ use Rattle.std.specs.Prelude.{Option, Some}
 use Rattle.edge_api.specs.declared.call.Tag.{Tag}
 use Rattle.edge_api.specs.Journal.{Objects, Moment, IsLegal, entries_of}
 use Rattle.op_types.specs.declared.statement.Statement.{Statement}
-use Rattle.op_types.specs.declared.statement.TableSpec.{TableSpec}
 use Rattle.op_types.specs.declared.reply.Reply.{Reply}
 use Rattle.op_types.specs.declared.reply.Reply.TheVariants.{Created}
 use Rattle.table_rules.specs.Names.{commit_text}
 use Rattle.table_rules.specs.Told.{IsTag}
 use Rattle.line_texts.specs.Texts.{text_of_columns}
 use Rattle.call_phases.specs.Phases.{Entries}
-use Rattle.txn_machine.specs.Answered.{Kept, names_of}
+use Rattle.statement_calls.specs.declared.finish.Finish.{Finish}
+use Rattle.statement_calls.specs.Answered.{names_of}
 use Rattle.actor_core.specs.Entries.{own}
 use Rattle.table_laws.specs.Levels.{Level, Serializable}
 use Rattle.table_laws.specs.History.{Put, history, put_under, body_of}
-use Rattle.table_laws.specs.Runs.{SessionKnows, IsRun, GotIn, StoredIn}
+use Rattle.table_laws.specs.Runs.{replies_of, IsRun}
+use Rattle.table_laws.proofs.Sessions.{SessionKnows, GotIn, StoredIn}
 use Rattle.table_laws.specs.Refused.{FaultedIn}
 use Rattle.table_laws.specs.Laws.{HasCreated, RepliesCreated}
 use Rattle.table_laws.proofs.Lawful.{ClaimsCreated}
-use Rattle.table_laws.proofs.Journals.{Stands, backwards, own_got, put_of_body, some_same}
+use Rattle.table_laws.proofs.Shown.{backwards, own_got, put_of_body, some_same}
+use Rattle.table_laws.proofs.Journals.{Stands}
 use Rattle.table_laws.proofs.Tries.{put_turned}
 use Rattle.table_laws.proofs.Refused.{put_faulted}
-use Rattle.table_laws.proofs.Serial.{run_end, claims}
+use Rattle.table_laws.proofs.Ends.{run_end, claims}
 
 module _ (level : Level) (K : Tag → List ℕ → List ℕ → Type 0) (script : Tag → Option Statement) (replies : Tag → Option Reply) (tags : (tag : Tag) (statement : Statement) → script tag ≡ Some statement → IsTag tag)
     (past : Entries) (os : Objects) (ps : List Put) (s : Stands level K script replies tags past os ps) (journal : Entries) (is_past : past ≡ backwards [] journal) where
@@ -47,9 +49,9 @@ module _ (level : Level) (K : Tag → List ℕ → List ℕ → Type 0) (script 
       let m = made t text (elim c.there [ inl kept ↦ inl kept | inr found ↦ inr (found.0, put_faulted t past journal (commit_text 0) text is_past found.1) ]) in
       record { puts = put_turned t past journal (0 ∷ []) is_past c.puts; by = m.by; is_by = m.is_by; text = m.is_text; is_tag = m.is_tag }
 
-pub created_at : (limit : ℕ) (script : Tag → Option Statement) (kepts : Tag → Option Kept) (replies : Tag → Option Reply) (moments : List Moment) → IsLegal [] 0 moments → IsRun limit script kepts replies (entries_of moments)
-    → RepliesCreated script replies moments
-created_at limit script kepts replies moments legal run t st is_st is_reply =
-    let e = run_end Serializable limit script kepts replies moments legal run in
-    let claim = claims Serializable limit script kepts replies moments legal run e t st Created is_st is_reply in
-    (claim.spec, claim.is_table, has_created Serializable (SessionKnows (entries_of moments)) script replies run.tags e.past e.os (history [] moments) e.stands (entries_of moments) e.is t st claim)
+pub created_at : (limit : ℕ) (script : Tag → Option Statement) (outcomes : Tag → Option Finish) (moments : List Moment) → IsLegal [] 0 moments → IsRun limit script outcomes (entries_of moments)
+    → RepliesCreated script (replies_of outcomes) moments
+created_at limit script outcomes moments legal run t st is_st is_reply =
+    let e = run_end Serializable limit script outcomes moments legal run in
+    let claim = claims Serializable limit script outcomes moments legal run e t st Created is_st is_reply in
+    (claim.spec, claim.is_table, has_created Serializable (SessionKnows (entries_of moments)) script (replies_of outcomes) run.tags e.past e.os (history [] moments) e.stands (entries_of moments) e.is t st claim)

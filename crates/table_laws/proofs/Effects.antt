@@ -7,7 +7,7 @@ use Rattle.row_base.specs.Bags.{count_of, others}
 use Rattle.row_base.proofs.Bags.{count_of-append, count_of-filter, count_of-filter_no, count_of-others, count_of-others_no}
 use Rattle.table_rules.specs.Names.{commit_text}
 use Rattle.snapshot_replay.specs.Table.{Add, Commit, Snapshot, paths_of, no_table, applied, snapshot_at}
-use Rattle.txn_machine.specs.Texts.{read_commit, read_file}
+use Rattle.statement_calls.specs.Texts.{read_commit, read_file}
 use Rattle.table_laws.specs.Rows.{Row}
 use Rattle.table_laws.specs.Operations.{Operation, Insert, Change, Compact, scope_of, result_of, is_insert, is_compaction, any_row, got_files, removed_files}
 use Rattle.table_laws.specs.Files.{rows_in, lines_of}
@@ -15,10 +15,10 @@ use Rattle.table_laws.proofs.CommitEffects.{may_match, new_rows, new_file, effec
 use Rattle.table_laws.specs.Levels.{Level}
 use Rattle.table_laws.proofs.Clashes.{first_clash}
 use Rattle.table_laws.specs.History.{Put, or_none, or_nothing, commit_at, rows_of}
-use Rattle.table_laws.specs.Runs.{LoadedTo}
+use Rattle.table_laws.proofs.Sessions.{LoadedTo}
 use Rattle.table_laws.proofs.Files.{in-cons}
 use Rattle.table_laws.proofs.Lawful.{AllGot, judge_of}
-use Rattle.table_laws.proofs.Journals.{InPut}
+use Rattle.table_laws.proofs.Shown.{InPut}
 
 -- no row of a list is of a scope
 no_row : (P : Row → Bool) (xs : List Row) → any_row P xs ≡ false → (x : Row) → P x ≡ true → count_of x xs ≡ 0

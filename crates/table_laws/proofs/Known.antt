@@ -1,21 +1,26 @@
 -- What is known stays known.
 use Rattle.std.proofs.Common.{◌≡◌, ℕ, zero, suc, List, [], ◌∷◌, ◌++◌}
-use Rattle.std.specs.Prelude.{Option, Some}
+use Rattle.std.specs.Prelude.{Option, Some, None}
 use Rattle.edge_api.specs.declared.call.Tag.{Tag}
 use Rattle.row_base.specs.declared.row.ScannedFile.{ScannedFile}
 use Rattle.snapshot_replay.specs.Table.{Commit, Snapshot}
-use Rattle.txn_machine.specs.Texts.{read_file}
+use Rattle.statement_calls.specs.declared.finish.Kept.{Kept}
+use Rattle.statement_calls.specs.Texts.{read_file}
 use Rattle.table_laws.specs.Rows.{Row}
 use Rattle.table_laws.specs.Operations.{Operation}
 use Rattle.table_laws.specs.Levels.{Level}
 use Rattle.table_laws.proofs.Clashes.{FileClash}
-use Rattle.table_laws.specs.Runs.{LoadedTo}
+use Rattle.table_laws.proofs.Sessions.{LoadedTo, KnownKept}
 use Rattle.table_laws.proofs.Lawful.{AllGot, AllScanned, Cleared, Knows}
 
 module _ (G H : List ℕ → List ℕ → Type 0) (more : (n b : List ℕ) → G n b → H n b) where
   pub loaded_more : (v : ℕ) (s : Snapshot) → LoadedTo G v s → LoadedTo H v s
   loaded_more zero s h = h
   loaded_more (suc v) s h = (h.0, h.1, h.2, loaded_more v h.0 h.3, more _ _ h.4, h.5, h.6)
+
+  pub kept_more : (kept : Option Kept) → KnownKept G kept → KnownKept H kept
+  kept_more None h = h
+  kept_more (Some k) h = loaded_more k.versions k.state h
 
   pub got_more : (view : List ℕ → List Row) (ps : List (List ℕ)) → AllGot G view ps → AllGot H view ps
   got_more view [] h = tt

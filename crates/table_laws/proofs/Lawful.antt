@@ -18,14 +18,15 @@ use Rattle.table_rules.specs.Names.{commit_text, data_text}
 use Rattle.line_texts.specs.Texts.{text_of_columns}
 use Rattle.snapshot_replay.specs.Table.{Add, Commit, Snapshot, paths_of}
 use Rattle.call_phases.specs.Phases.{Entries}
-use Rattle.txn_machine.specs.Texts.{read_commit, read_file}
-use Rattle.txn_machine.specs.Answered.{names_of, rows_of_files}
+use Rattle.statement_calls.specs.Texts.{read_commit, read_file}
+use Rattle.statement_calls.specs.Answered.{names_of, rows_of_files}
 use Rattle.table_laws.specs.Rows.{Row}
 use Rattle.table_laws.specs.Operations.{Operation, operation_of, scope_of, got_files, removed_files}
 use Rattle.table_laws.proofs.CommitEffects.{may_match, new_rows, effect_of}
 use Rattle.table_laws.specs.Levels.{Level}
 use Rattle.table_laws.proofs.Clashes.{FileClash, first_clash}
-use Rattle.table_laws.specs.Runs.{or_first, listed_by, told_by, versions_put, GotIn, StoredIn, LoadedTo}
+use Rattle.table_laws.specs.Runs.{or_first, listed_by, told_by, versions_put}
+use Rattle.table_laws.proofs.Sessions.{GotIn, StoredIn, LoadedTo}
 use Rattle.table_laws.specs.Refused.{IsUnknown}
 
 -- a statement's session or its own entries got it or stored it

@@ -1,3 +1,4 @@
+pub mod Sessions
 pub mod Clashes
 pub mod CommitEffects
 pub mod Files
@@ -5,16 +6,21 @@ pub mod Live
 pub mod Winners
 pub mod Lawful
 pub mod Known
+pub mod Loads
 pub mod Phases
 pub mod Paths
 pub mod Texts
 pub mod Statements
+pub mod Kept
 pub mod Names
 pub mod Puts
+pub mod Shown
 pub mod Journals
 pub mod Effects
 pub mod Tries
+pub mod Readings
 pub mod Serial
+pub mod Ends
 pub mod Folded
 pub mod Refused
 pub mod Moments

@@ -1,5 +1,5 @@
 -- What stands at each moment of a run, and what becomes of the put of a commit there.
-use Rattle.std.proofs.Common.{◌≡◌, ◌≢◌, ◌⊎◌, inl, inr, ℕ, ◌<◌, ◌^◌, Bool, true, false, List, [], ◌∷◌, ◌++◌, refl, sym, ◌∙◌, ap, subst}
+use Rattle.std.proofs.Common.{◌≡◌, ◌⊎◌, inl, inr, ℕ, Bool, true, false, List, [], ◌∷◌, ◌++◌, refl, sym, ◌∙◌, ap, subst}
 use Rattle.std.proofs.lemmas.List.{append-nil, append_assoc}
 use Rattle.std.specs.Prelude.{Option, Some, None}
 use Rattle.edge_api.specs.declared.call.Tag.{Tag}
@@ -14,17 +14,19 @@ use Rattle.op_types.specs.declared.reply.Reply.{Reply}
 use Rattle.table_rules.specs.Names.{commit_text}
 use Rattle.table_rules.specs.Told.{IsTag}
 use Rattle.call_phases.specs.Phases.{Entries}
-use Rattle.txn_machine.specs.Answered.{Kept}
+use Rattle.statement_calls.specs.declared.finish.Finish.{Finish}
 use Rattle.actor_core.specs.Entries.{own}
 use Rattle.table_laws.specs.Levels.{Level, Serializable}
 use Rattle.table_laws.specs.History.{Put, put_under, puts_of, puts_at, put_if_free, if_done, history}
-use Rattle.table_laws.specs.Runs.{SessionKnows, IsRun}
+use Rattle.table_laws.specs.Runs.{replies_of, IsRun}
+use Rattle.table_laws.proofs.Sessions.{SessionKnows}
 use Rattle.table_laws.specs.Laws.{CommitPut, Wins, Loses, Fails, CommitPutsAreDecided}
 use Rattle.table_laws.proofs.Lawful.{MayPut, LawfulBy}
 use Rattle.table_laws.proofs.Puts.{body_at}
 use Rattle.table_laws.proofs.Tries.{put_under-behind}
-use Rattle.table_laws.proofs.Journals.{Stands, Keeps, nothing_stands, lawful_next, keeps_rest, call_step, not_own, put_of_body}
-use Rattle.table_laws.proofs.Serial.{keeps_answered}
+use Rattle.table_laws.proofs.Shown.{put_of_body}
+use Rattle.table_laws.proofs.Journals.{Stands, Keeps, nothing_stands, lawful_next, keeps_rest, call_step, not_own}
+use Rattle.table_laws.proofs.Ends.{keeps_answered}
 
 module _ (level : Level) (K : Tag → List ℕ → List ℕ → Type 0) (script : Tag → Option Statement) (replies : Tag → Option Reply) (tags : (tag : Tag) (statement : Statement) → script tag ≡ Some statement → IsTag tag) where
   -- what stands after some moments, with the rest still to come
@@ -116,11 +118,11 @@ module _ (level : Level) (K : Tag → List ℕ → List ℕ → Type 0) (script 
             Loses winner.0 winner.1 (λ same. not_own level K script replies tags r.past r.os (history [] before) r.stands m.entry.tag next.0 next.1 (commit_text v) body may v refl winner.0 winner.1 same)
             (taken_or_fault m.entry.answer answers)
 
-pub puts_at_moments : (limit : ℕ) (script : Tag → Option Statement) (kepts : Tag → Option Kept) (replies : Tag → Option Reply) (moments : List Moment) → IsLegal [] 0 moments → IsRun limit script kepts replies (entries_of moments) → CommitPutsAreDecided moments
-puts_at_moments limit script kepts replies moments legal run before rest m v body parts small is =
+pub puts_at_moments : (limit : ℕ) (script : Tag → Option Statement) (outcomes : Tag → Option Finish) (moments : List Moment) → IsLegal [] 0 moments → IsRun limit script outcomes (entries_of moments) → CommitPutsAreDecided moments
+puts_at_moments limit script outcomes moments legal run before rest m v body parts small is =
     let K = SessionKnows (entries_of moments) in
-    let keeps = keeps_answered Serializable limit script kepts replies moments legal run in
-    let here = stands_at Serializable K script replies run.tags before (m ∷ rest) [] [] [] 0 (nothing_stands Serializable K script replies run.tags) (subst (IsLegal [] 0) parts legal)
-    (subst (λ (ms : List Moment). Keeps Serializable K script replies run.tags [] (entries_of ms)) parts keeps) in
-    let found = decided Serializable K script replies run.tags before rest m v body is here in
+    let keeps = keeps_answered Serializable limit script outcomes moments legal run in
+    let here = stands_at Serializable K script (replies_of outcomes) run.tags before (m ∷ rest) [] [] [] 0 (nothing_stands Serializable K script (replies_of outcomes) run.tags) (subst (IsLegal [] 0) parts legal)
+    (subst (λ (ms : List Moment). Keeps Serializable K script (replies_of outcomes) run.tags [] (entries_of ms)) parts keeps) in
+    let found = decided Serializable K script (replies_of outcomes) run.tags before rest m v body is here in
     subst (λ (ms : List Moment). CommitPut (history [] before) (history [] ms) v body m) (sym parts) found

@@ -16,12 +16,14 @@ use Rattle.edge_api.specs.Journal.{same_tag}
 use Rattle.actor_core.specs.Entries.{own}
 use Rattle.table_laws.specs.Levels.{Level, Serializable}
 use Rattle.table_laws.specs.History.{Put, history, put_under, body_of}
-use Rattle.txn_machine.specs.Answered.{Kept}
-use Rattle.table_laws.specs.Runs.{SessionKnows, IsRun}
+use Rattle.statement_calls.specs.declared.finish.Finish.{Finish}
+use Rattle.table_laws.specs.Runs.{replies_of, IsRun}
+use Rattle.table_laws.proofs.Sessions.{SessionKnows}
 use Rattle.table_laws.specs.Refused.{IsUnknown, FaultedIn, RefusedCommitNothing}
 use Rattle.table_laws.proofs.Lawful.{PutIn, ClaimsNothing}
-use Rattle.table_laws.proofs.Journals.{Stands, backwards, own_got, some_same}
-use Rattle.table_laws.proofs.Serial.{run_end, claims}
+use Rattle.table_laws.proofs.Shown.{backwards, own_got, some_same}
+use Rattle.table_laws.proofs.Journals.{Stands}
+use Rattle.table_laws.proofs.Ends.{run_end, claims}
 
 -- a put among the newest-first entries is one of those before, or of those in the order of the journal
 put_back : (t : Tag) (past es : Entries) (n b : List ℕ) (a : Answer) → PutIn (own t (backwards past es)) n b a → PutIn (own t past) n b a ⊎ PutIn (own t es) n b a
@@ -61,10 +63,10 @@ module _ (level : Level) (K : Tag → List ℕ → List ℕ → Type 0) (script 
         ]
       ]
 
-pub refused_at : (limit : ℕ) (script : Tag → Option Statement) (kepts : Tag → Option Kept) (replies : Tag → Option Reply) (moments : List Moment) → IsLegal [] 0 moments → IsRun limit script kepts replies (entries_of moments)
-    → RefusedCommitNothing script replies moments
-refused_at limit script kepts replies moments legal run t st r version p is_st is_reply is same =
-    let e = run_end Serializable limit script kepts replies moments legal run in
-    let claim = claims Serializable limit script kepts replies moments legal run e t st (Refused r) is_st is_reply in
-    let d = in_doubt Serializable (SessionKnows (entries_of moments)) script replies run.tags e.past e.os (history [] moments) e.stands t r version p claim is same in
+pub refused_at : (limit : ℕ) (script : Tag → Option Statement) (outcomes : Tag → Option Finish) (moments : List Moment) → IsLegal [] 0 moments → IsRun limit script outcomes (entries_of moments)
+    → RefusedCommitNothing script (replies_of outcomes) moments
+refused_at limit script outcomes moments legal run t st r version p is_st is_reply is same =
+    let e = run_end Serializable limit script outcomes moments legal run in
+    let claim = claims Serializable limit script outcomes moments legal run e t st (Refused r) is_st is_reply in
+    let d = in_doubt Serializable (SessionKnows (entries_of moments)) script (replies_of outcomes) run.tags e.past e.os (history [] moments) e.stands t r version p claim is same in
     (d.0, put_faulted t e.past (entries_of moments) (commit_text version) p.body e.is d.1)

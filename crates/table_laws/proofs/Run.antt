@@ -1,25 +1,25 @@
 -- Every legal completion of a run's journal is lawful.
 use Rattle.table_laws.specs.Levels.{Serializable}
 use Rattle.table_laws.specs.Lawful.{EachRunIsLawful}
-use Rattle.table_laws.proofs.Serial.{serial_at, once_at, first_at, commits_at, files_at, lands_at, committed_at, read_at, first_is_empty}
+use Rattle.table_laws.proofs.Ends.{serial_at, once_at, first_at, commits_at, files_at, lands_at, committed_at, read_at, first_is_empty}
 use Rattle.table_laws.proofs.Folded.{rows_are_folded}
 use Rattle.table_laws.proofs.Moments.{puts_at_moments}
 use Rattle.table_laws.proofs.Created.{created_at}
 use Rattle.table_laws.proofs.Refused.{refused_at}
 
 pub each_run_is_lawful : EachRunIsLawful
-each_run_is_lawful limit script kepts replies moments legal run = record {
-  serial = serial_at limit script kepts replies moments legal run;
-  folded = rows_are_folded script moments (serial_at limit script kepts replies moments legal run Serializable) (first_is_empty moments);
-  first = first_at limit script kepts replies moments legal run;
+each_run_is_lawful limit script outcomes moments legal run = record {
+  serial = serial_at limit script outcomes moments legal run;
+  folded = rows_are_folded script moments (serial_at limit script outcomes moments legal run Serializable) (first_is_empty moments);
+  first = first_at limit script outcomes moments legal run;
   empty = first_is_empty moments;
-  once = once_at limit script kepts replies moments legal run;
-  commits = commits_at limit script kepts replies moments legal run;
-  files = files_at limit script kepts replies moments legal run;
-  lands = lands_at limit script kepts replies moments legal run;
-  puts = puts_at_moments limit script kepts replies moments legal run;
-  created = created_at limit script kepts replies moments legal run;
-  committed = committed_at limit script kepts replies moments legal run;
-  read = read_at limit script kepts replies moments legal run;
-  refused = refused_at limit script kepts replies moments legal run;
+  once = once_at limit script outcomes moments legal run;
+  commits = commits_at limit script outcomes moments legal run;
+  files = files_at limit script outcomes moments legal run;
+  lands = lands_at limit script outcomes moments legal run;
+  puts = puts_at_moments limit script outcomes moments legal run;
+  created = created_at limit script outcomes moments legal run;
+  committed = committed_at limit script outcomes moments legal run;
+  read = read_at limit script outcomes moments legal run;
+  refused = refused_at limit script outcomes moments legal run;
 }

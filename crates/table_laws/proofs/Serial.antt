@@ -1,13 +1,10 @@
 -- Each committed version follows from the one before.
-use Rattle.std.proofs.Common.{◌≡◌, ◌⊎◌, inl, inr, ℕ, zero, suc, ◌+◌, ◌-◌, ◌≤◌, ◌<◌, ◌^◌, Bool, true, false, List, [], ◌∷◌, ◌++◌, length, refl, sym, ◌∙◌, ap, subst, arith}
-use Rattle.std.specs.Prelude.{Option, Some, None, IsSome, if◌then◌else◌, option_map, option_and_then}
+use Rattle.std.proofs.Common.{◌≡◌, ◌⊎◌, inl, inr, ℕ, zero, suc, ◌+◌, ◌-◌, ◌≤◌, ◌<◌, ◌^◌, Bool, true, false, List, [], ◌∷◌, length, refl, sym, ◌∙◌, ap, subst, arith}
+use Rattle.std.specs.Prelude.{Option, Some, None, option_map}
 use Rattle.std.specs.Str.{bytes_eq}
-use Rattle.std.specs.Ordering.{is_lt, nat_cmp}
-use Rattle.std.specs.Cmp.Lexicographic.{slice_cmp}
 use Rattle.std.proofs.lemmas.Slice.Eq.{bytes_eq-Decides}
 use Rattle.edge_api.specs.declared.call.Tag.{Tag}
-use Rattle.edge_api.specs.Journal.{Objects, Moment, IsLegal, entries_of}
-use Rattle.row_base.specs.declared.row.ScannedFile.{ScannedFile}
+use Rattle.edge_api.specs.Journal.{Objects}
 use Rattle.row_base.specs.Sorting.{Sorts}
 use Rattle.row_base.specs.Bags.{count_of}
 use Rattle.row_base.proofs.Bags.{count_of-append}
@@ -15,126 +12,34 @@ use Rattle.op_types.specs.declared.statement.Statement.{Statement}
 use Rattle.op_types.specs.declared.statement.Statement.TheVariants.{Table}
 use Rattle.op_types.specs.declared.statement.TableSpec.{TableSpec}
 use Rattle.op_types.specs.declared.reply.Reply.{Reply}
-use Rattle.op_types.specs.declared.reply.Reply.TheVariants.{Committed as CommittedReply, Rows}
 use Rattle.table_rules.specs.Names.{commit_text, data_text}
 use Rattle.table_rules.specs.Told.{IsTag}
 use Rattle.line_texts.specs.Texts.{columns_of_text}
 use Rattle.line_texts.proofs.Laws.{columns_read_back}
-use Rattle.snapshot_replay.specs.Table.{Add, Action, Removes, Adds, Commit, Snapshot, without_path, placed, reconciled, table_commit, paths_of, snapshot_at}
+use Rattle.snapshot_replay.specs.Table.{Add, Action, Commit, Snapshot, reconciled, table_commit, paths_of, snapshot_at}
 use Rattle.call_phases.specs.Phases.{Entries}
-use Rattle.txn_machine.specs.Texts.{read_commit, read_file}
-use Rattle.txn_machine.specs.Answered.{Kept, names_of, rows_of_files}
-use Rattle.txn_machine.proofs.OpenEnds.{length-paths_of}
+use Rattle.statement_calls.specs.Texts.{read_commit, read_file}
+use Rattle.statement_calls.specs.Answered.{names_of, rows_of_files}
 use Rattle.actor_core.specs.Entries.{own}
 use Rattle.table_laws.specs.Rows.{Row}
 use Rattle.table_laws.specs.Operations.{Operation, operation_of, inserted, got_files, removed_files}
-use Rattle.table_laws.specs.Files.{live_by, rows_in, rows_under, lines_of}
+use Rattle.table_laws.specs.Files.{live_by, rows_in}
 use Rattle.table_laws.proofs.CommitEffects.{may_match, new_rows, new_file, effect_of}
-use Rattle.table_laws.specs.Levels.{Level, Serializable}
-use Rattle.table_laws.specs.History.{Put, put_under, body_of, or_nothing, commit_at, rows_of, history, IsCommitted}
-use Rattle.table_laws.specs.Runs.{listed_by, GotIn, StoredIn, SessionKnows, LoadedTo, IsAnsweredPart, IsRun}
-use Rattle.table_laws.specs.Laws.{statement_of, operation_by, inserted_by, appended, Step, versions_from, IsWonBefore, Lands, HasCommitted, HasRead, MakesTable, ReadsAt, FileReads, AllFilesRead, VersionsAreSerial, FirstIsEmpty, FirstMakesTable, CommitsOnce, CommitsRead, FilesRead, CommitsLand, RepliesCommitted, RepliesRead}
-use Rattle.table_laws.proofs.Files.{times, is_one, times-placed, times-without_other, times-without_same}
+use Rattle.table_laws.specs.Levels.{Level}
+use Rattle.table_laws.specs.History.{Put, put_under, body_of, commit_at, rows_of, IsCommitted}
+use Rattle.table_laws.specs.Runs.{listed_by}
+use Rattle.table_laws.proofs.Sessions.{GotIn, StoredIn}
+use Rattle.table_laws.specs.Laws.{statement_of, operation_by, inserted_by, appended, Step, versions_from, IsWonBefore, Lands, HasCommitted, HasRead, MakesTable, ReadsAt, FileReads, AllFilesRead}
+use Rattle.table_laws.proofs.Files.{times}
 use Rattle.table_laws.proofs.Winners.{Landed, serial}
-use Rattle.table_laws.proofs.Lawful.{Known, AllGot, AllScanned, Knows, ClaimsCommit, ClaimsRows, ClaimOf, judge_of}
+use Rattle.table_laws.proofs.Lawful.{Known, AllGot, Knows, ClaimsCommit, ClaimsRows, judge_of}
 use Rattle.table_laws.proofs.Known.{loaded_more, knows_more, scanned_more}
 use Rattle.table_laws.proofs.Tries.{put_in_order, put_under-front}
 use Rattle.table_laws.proofs.Names.{same_file}
-use Rattle.table_laws.proofs.Journals.{InPut, Sure, Stands, Committed, End, Keeps, KeepsPart, backwards, nothing_stands, whole, given_is, own_got, got_at, stored_at, put_of_body, some_same}
+use Rattle.table_laws.proofs.Shown.{InPut, Sure, backwards, given_is, own_got, put_of_body, some_same}
+use Rattle.table_laws.proofs.Journals.{Stands, Committed}
 use Rattle.table_laws.proofs.Effects.{effect_balance, file_is, commit_is, loaded_is, same_new, same_effect, judge_same}
-use Rattle.table_laws.proofs.Statements.{answered_lawful}
-
-pub some_put : (o : Option Put) → IsSome o → (p : Put) × (o ≡ Some p)
-some_put None h = cc
-some_put (Some p) h = (p, refl)
-
-pub some_of_body : (o : Option Put) (b : List ℕ) → body_of o ≡ Some b → IsSome o
-some_of_body None b h = cc
-some_of_body (Some p) b h = refl
-
-is_some : (o : Option Put) (p : Put) → o ≡ Some p → IsSome o
-is_some None p h = cc
-is_some (Some q) p h = refl
-
--- a path that is not there and not added is not there later
-none_more : (p : List ℕ) (ps : List (List ℕ)) (a : Add) (fs : List Add) → times p fs ≡ 0 → bytes_eq a.path p ≡ false → times p (reconciled fs (lines_of ps (a ∷ []))) ≡ 0
-none_more p [] a fs none apart =
-    let s = times-placed p a (without_path fs a.path) in
-    let t : times p (without_path fs a.path) ≡ times p fs = times-without_other p a.path fs apart in
-    let u : is_one p a ≡ 0 = ap (λ (b : Bool). if b then 1 else 0) apart in
-    omega arith
-none_more p (q ∷ ps) a fs none apart = none_more p ps a (without_path fs q) (by (bytes_eq q p) refl) apart
-  where
-    by : (b : Bool) → bytes_eq q p ≡ b → times p (without_path fs q) ≡ 0
-    by true e = subst (λ (n : List ℕ). times p (without_path fs n) ≡ 0) (sym ((bytes_eq-Decides q p).0 e)) (times-without_same p fs)
-    by false e = times-without_other p q fs e ∙ none
-
--- commit 0 adds nothing, whatever its text
-pub empty_first : (ps : List Put) → (commit_at ps 0).lines ≡ []
-empty_first ps = by (body_of (put_under ps (commit_text 0)))
-  where
-    read : (o : Option (List (List ℕ))) → (or_nothing (option_map table_commit o)).lines ≡ []
-    read None = refl
-    read (Some columns) = refl
-
-    by : (o : Option (List ℕ)) → (or_nothing (option_and_then (read_commit 0) o)).lines ≡ []
-    by None = refl
-    by (Some text) = read (columns_of_text text)
-
-same_commit : (a b : Commit) → Some a ≡ Some b → a ≡ b
-same_commit a b h = cc
-
-same_path : (a b : List ℕ) → Some a ≡ Some b → a ≡ b
-same_path a b h = cc
-
--- the first path that is added
-abbrev first_added : List Action → Option (List ℕ)
-first_added [] = None
-first_added (Removes p ∷ ls) = first_added ls
-first_added (Adds a ∷ ls) = Some a.path
-
-added_is : (ps : List (List ℕ)) (a : Add) → first_added (lines_of ps (a ∷ [])) ≡ Some a.path
-added_is [] a = refl
-added_is (p ∷ ps) a = added_is ps a
-
--- the files that were got hold the rows under their paths
-scanned_rows : (ps : List Put) (paths : List (List ℕ)) (fs : List ScannedFile) → AllScanned (InPut ps) paths fs → rows_of_files fs ≡ rows_under (rows_of ps) paths
-scanned_rows ps [] [] h = refl
-scanned_rows ps [] (f ∷ fs) h = absurd h
-scanned_rows ps (p ∷ paths) [] h = absurd h
-scanned_rows ps (p ∷ paths) (f ∷ fs) h = ap (λ (l : List Row). l ++ rows_of_files fs) (file_is ps p h.0.0 f.rows h.0.1 h.0.2) ∙ ap (λ (l : List Row). rows_of ps p ++ l) (scanned_rows ps paths fs h.1)
-
-scanned_long : (G : List ℕ → List ℕ → Type 0) (paths : List (List ℕ)) (fs : List ScannedFile) → AllScanned G paths fs → length fs ≡ length paths
-scanned_long G [] [] h = refl
-scanned_long G [] (f ∷ fs) h = absurd h
-scanned_long G (p ∷ paths) [] h = absurd h
-scanned_long G (p ∷ paths) (f ∷ fs) h = ap (λ (n : ℕ). suc n) (scanned_long G paths fs h.1)
-
--- the commit of version 0 was read by whoever loaded a version
-first_loaded : (G : List ℕ → List ℕ → Type 0) (n : ℕ) (s : Snapshot) → LoadedTo G (suc n) s → (text : List ℕ) × G (commit_text 0) text × (t : Commit) × (read_commit 0 text ≡ Some t)
-first_loaded G zero s h = (h.1, h.4, h.2, h.5)
-first_loaded G (suc n) s h = first_loaded G n h.0 h.3
-
-without_read : (ps : List Put) (path : List ℕ) (fs : List Add) → AllFilesRead ps fs → AllFilesRead ps (without_path fs path)
-without_read ps path [] h = tt
-without_read ps path (a ∷ fs) h = by (bytes_eq a.path path) (without_read ps path fs h.1)
-  where
-    by : (b : Bool) → AllFilesRead ps (without_path fs path) → AllFilesRead ps (if b then without_path fs path else a ∷ without_path fs path)
-    by true rest = rest
-    by false rest = (h.0, rest)
-
-placed_read : (ps : List Put) (a : Add) (fs : List Add) → FileReads ps a.path → AllFilesRead ps fs → AllFilesRead ps (placed a fs)
-placed_read ps a [] one h = (one, tt)
-placed_read ps a (b ∷ fs) one h = by (is_lt (slice_cmp nat_cmp b.path a.path)) (placed_read ps a fs one h.1)
-  where
-    by : (c : Bool) → AllFilesRead ps (placed a fs) → AllFilesRead ps (if c then b ∷ placed a fs else a ∷ b ∷ fs)
-    by true rest = (h.0, rest)
-    by false rest = (one, h)
-
--- files that read, after a commit that adds one that reads
-lines_read : (ps : List Put) (removed : List (List ℕ)) (a : Add) (fs : List Add) → AllFilesRead ps fs → FileReads ps a.path → AllFilesRead ps (reconciled fs (lines_of removed (a ∷ [])))
-lines_read ps [] a fs h one = placed_read ps a (without_path fs a.path) one (without_read ps a.path fs h)
-lines_read ps (r ∷ removed) a fs h one = lines_read ps removed a (without_path fs r) (without_read ps r fs h) one
+use Rattle.table_laws.proofs.Readings.{some_put, some_of_body, is_some, none_more, empty_first, same_commit, same_path, first_added, added_is, scanned_rows, scanned_long, length-paths_of, first_loaded, lines_read}
 
 module _ (level : Level) (K : Tag → List ℕ → List ℕ → Type 0) (script : Tag → Option Statement) (replies : Tag → Option Reply) (tags : (tag : Tag) (statement : Statement) → script tag ≡ Some statement → IsTag tag)
     (past : Entries) (os : Objects) (ps : List Put) (s : Stands level K script replies tags past os ps) (known : (t : Tag) (n b : List ℕ) → K t n b → InPut ps n b) where
@@ -433,83 +338,3 @@ module _ (level : Level) (K : Tag → List ℕ → List ℕ → Type 0) (script 
   once zero (suc w) p q small also is there same = absurd (no_table w p q also is there same)
   once (suc v) zero p q small also is there same = absurd (no_table v q p small there is (sym same))
   once (suc v) (suc w) p q small also is there same = ap (λ (n : ℕ). suc n) (s.single v w p q small also is there same)
-
-module _ (level : Level) (limit : ℕ) (script : Tag → Option Statement) (kepts : Tag → Option Kept) (replies : Tag → Option Reply) (moments : List Moment) (legal : IsLegal [] 0 moments) (run : IsRun limit script kepts replies (entries_of moments)) where
-  abbrev journal : Entries
-  journal = entries_of moments
-
-  abbrev K : Tag → List ℕ → List ℕ → Type 0
-  K = SessionKnows journal
-
-  pub keeps_answered : Keeps level K script replies run.tags [] journal
-  keeps_answered t = part (script t) refl (run.answered t)
-    where
-      part : (s : Option Statement) → script t ≡ s → IsAnsweredPart limit t (kepts t) s (own t journal) (replies t) → KeepsPart level K script replies run.tags t s (replies t) [] (own t journal)
-      part None e h = h
-      part (Some statement) e h =
-          answered_lawful level (K t) t limit run.limited (kepts t) (run.kept t) statement (λ rows is. run.faithful t rows (e ∙ ap (λ (s : Statement). Some s) is)) (own t journal) (replies t) h
-
-  abbrev at_end : Type 0
-  at_end = End level K script replies run.tags [] journal (history [] moments)
-
-  pub run_end : at_end
-  run_end = whole level K script replies run.tags moments [] [] [] 0 (nothing_stands level K script replies run.tags) legal keeps_answered
-
-  -- what a session knows was put by the end
-  pub known_at : (e : at_end) (t : Tag) (n b : List ℕ) → K t n b → InPut (history [] moments) n b
-  known_at e t n b k = elim k.2 [
-    | inl got ↦ (e.stands).got n b (own_got k.0 e.past n b (got_at k.0 e.past journal n b e.is got))
-    | inr kept ↦ let p = (e.stands).stored k.0 n b (stored_at k.0 e.past journal n b e.is kept) in ap body_of p.is ∙ ap (λ (b : List ℕ). Some b) p.body
-  ]
-
-  -- what the reply of a statement claims holds at the end
-  pub claims : (e : at_end) (t : Tag) (st : Statement) (reply : Reply) → script t ≡ Some st → replies t ≡ Some reply → ClaimOf (K t) t st (own t e.past) reply
-  claims e t st reply is_st is_reply =
-      subst (λ (r : Option Reply). KeepsPart level K script replies run.tags t (Some st) r (own t e.past) []) is_reply
-      (subst (λ (o : Option Statement). KeepsPart level K script replies run.tags t o (replies t) (own t e.past) []) is_st (e.keeps t))
-
-module _ (limit : ℕ) (script : Tag → Option Statement) (kepts : Tag → Option Kept) (replies : Tag → Option Reply) (moments : List Moment) (legal : IsLegal [] 0 moments) (run : IsRun limit script kepts replies (entries_of moments)) where
-  pub serial_at : (level : Level) → VersionsAreSerial level script moments
-  serial_at level v small is =
-      let e = run_end level limit script kepts replies moments legal run in
-      step level (SessionKnows (entries_of moments)) script replies run.tags e.past e.os (history [] moments) e.stands (known_at level limit script kepts replies moments legal run e) (entries_of moments) e.is v small is
-
-  pub once_at : CommitsOnce moments
-  once_at v w p q small also is there same =
-      let e = run_end Serializable limit script kepts replies moments legal run in
-      once Serializable (SessionKnows (entries_of moments)) script replies run.tags e.past e.os (history [] moments) e.stands (known_at Serializable limit script kepts replies moments legal run e) v w p q small also is there same
-
-  pub first_at : FirstMakesTable script moments
-  first_at p is =
-      let e = run_end Serializable limit script kepts replies moments legal run in
-      makes_table Serializable (SessionKnows (entries_of moments)) script replies run.tags e.past e.os (history [] moments) e.stands (known_at Serializable limit script kepts replies moments legal run e) p is
-
-  pub commits_at : CommitsRead moments
-  commits_at v k small is le =
-      let e = run_end Serializable limit script kepts replies moments legal run in
-      commits_read Serializable (SessionKnows (entries_of moments)) script replies run.tags e.past e.os (history [] moments) e.stands (known_at Serializable limit script kepts replies moments legal run e) v k small is le
-
-  pub files_at : FilesRead moments
-  files_at v small is =
-      let e = run_end Serializable limit script kepts replies moments legal run in
-      files_read Serializable (SessionKnows (entries_of moments)) script replies run.tags e.past e.os (history [] moments) e.stands (known_at Serializable limit script kepts replies moments legal run e) v small is
-
-  pub lands_at : CommitsLand moments
-  lands_at v p small is =
-      let e = run_end Serializable limit script kepts replies moments legal run in
-      lands Serializable (SessionKnows (entries_of moments)) script replies run.tags e.past e.os (history [] moments) e.stands (known_at Serializable limit script kepts replies moments legal run e) (entries_of moments) e.is v p small is
-
-  pub committed_at : RepliesCommitted script replies moments
-  committed_at t st version read attempts checkpoint is_st is_reply =
-      let e = run_end Serializable limit script kepts replies moments legal run in
-      has_committed Serializable (SessionKnows (entries_of moments)) script replies run.tags e.past e.os (history [] moments) e.stands (known_at Serializable limit script kepts replies moments legal run e) (entries_of moments) e.is t st
-      is_st version read attempts (claims Serializable limit script kepts replies moments legal run e t st (CommittedReply version read attempts checkpoint) is_st is_reply)
-
-  pub read_at : RepliesRead script replies moments
-  read_at t st version given read live_files is_st is_reply =
-      let e = run_end Serializable limit script kepts replies moments legal run in
-      has_read Serializable (SessionKnows (entries_of moments)) script replies run.tags e.past e.os (history [] moments) e.stands (known_at Serializable limit script kepts replies moments legal run e) (entries_of moments) e.is t
-      version given read live_files (claims Serializable limit script kepts replies moments legal run e t st (Rows version given read live_files) is_st is_reply)
-
-pub first_is_empty : (moments : List Moment) → FirstIsEmpty moments
-first_is_empty moments = ap (λ (ls : List Action). rows_in (rows_of (history [] moments)) (reconciled [] ls)) (empty_first (history [] moments))

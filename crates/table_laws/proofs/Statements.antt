@@ -1,6 +1,6 @@
 -- An answered statement's entries are lawful.
-use Rattle.std.proofs.Common.{◌≡◌, ◌⊎◌, inl, inr, ℕ, suc, ◌+◌, ◌≤◌, ◌<◌, ◌^◌, Bool, true, false, List, [], ◌∷◌, ◌++◌, length, refl, sym, ◌∙◌, ap, subst, arith}
-use Rattle.std.specs.Prelude.{MatchBool, MatchOption, ◌-◌, Option, Some, None, nat_lt, if◌then◌else◌}
+use Rattle.std.proofs.Common.{◌≡◌, inl, inr, ℕ, suc, ◌+◌, ◌≤◌, ◌<◌, ◌^◌, Bool, true, false, List, [], ◌∷◌, ◌++◌, length, refl, sym, ◌∙◌, ap, subst, arith}
+use Rattle.std.specs.Prelude.{MatchBool, MatchOption, Option, Some, None, Ok, nat_lt, if◌then◌else◌}
 use Rattle.std.proofs.lemmas.List.{append-nil, append_assoc}
 use Rattle.std.proofs.lemmas.Slice.Eq.{bytes_eq-Decides}
 use Rattle.std.proofs.lemmas.Bool.Decides.{nat_tests}
@@ -11,36 +11,40 @@ use Rattle.edge_api.specs.declared.call.Answer.{Answer}
 use Rattle.edge_api.specs.declared.call.Answer.TheVariants.{Body}
 use Rattle.edge_api.specs.declared.call.Listed.{Listed}
 use Rattle.edge_api.specs.declared.call.JournalEntry.{JournalEntry}
-use Rattle.row_base.specs.declared.row.ScannedFile.{ScannedFile}
 use Rattle.op_types.specs.declared.statement.Statement.{Statement}
 use Rattle.op_types.specs.declared.statement.Statement.TheVariants.{Table, Insert, Select}
 use Rattle.op_types.specs.declared.statement.TableSpec.{TableSpec}
 use Rattle.op_types.specs.declared.refusal.Refusal.TheVariants as refusal
 use Rattle.op_types.specs.fault.Feature.TheVariants.{Versions}
-use Rattle.op_types.specs.declared.reply.Reply.{Reply}
-use Rattle.op_types.specs.declared.reply.Reply.TheVariants.{Created, Committed, Rows, Killed, Refused}
+use Rattle.op_types.specs.declared.reply.Reply.TheVariants.{Created, Rows}
 use Rattle.table_rules.specs.Names.{log_prefix, commit_text, data_text}
 use Rattle.table_rules.proofs.Names.{commit_is_read, data_is_outside, data_is_no_commit}
 use Rattle.line_texts.specs.Texts.{text_of_columns, text_of_add, text_of_rows, rows_of_text}
-use Rattle.snapshot_replay.specs.Table.{Commit, Snapshot, no_table, paths_of}
+use Rattle.snapshot_replay.specs.Table.{Commit, Snapshot, paths_of}
 use Rattle.call_phases.specs.Phases.{Entries}
 use Rattle.committer.specs.declared.judge.Verdict.TheVariants as verdict
-use Rattle.txn_machine.specs.declared.judge.CommitJudge.{CommitJudge}
-use Rattle.txn_machine.specs.declared.statement.TableStatement.{TableStatement}
-use Rattle.txn_machine.specs.declared.statement.TableStatement.TheVariants as over
-use Rattle.txn_machine.specs.Judging.{verdict_of}
-use Rattle.txn_machine.specs.Phases.{IsCutShort, Ends, Cut, commit_of, newest, missing, AtLoad, AtFiles}
-use Rattle.txn_machine.specs.Texts.{read_commit, read_file}
-use Rattle.txn_machine.specs.Answered.{Kept, retention, version_limit, IsSelected, IsReplied, load_from, load_count, load_base, names_of, AtCommit, committed, Appends, Selects, AfterLoad, Loads, Makes, AfterListing, Answered}
+use Rattle.statement_calls.specs.declared.finish.Kept.{Kept}
+use Rattle.statement_calls.specs.declared.finish.Finish.{Finish}
+use Rattle.statement_calls.specs.declared.statement.TableStatement.{TableStatement}
+use Rattle.statement_calls.specs.declared.statement.TableStatement.TheVariants as over
+use Rattle.statement_calls.specs.Bounds.{version_limit}
+use Rattle.statement_calls.specs.Judging.{CommitPlan, verdict_of}
+use Rattle.statement_calls.specs.Listing.{commit_of, newest, missing}
+use Rattle.statement_calls.specs.Objects.{next_commit, apply_next, commits_left, Files, next_file, scan_next, first_of, scan_first, with_rows}
+use Rattle.statement_calls.specs.Outcome.{Ends, refusal_of_load, refusal_of_scan}
+use Rattle.statement_calls.specs.Texts.{read_commit, read_file, file_fault}
+use Rattle.statement_calls.specs.Answered.{retention, names_of, Base, base_of, kept_after, committed, AtCommit, Appends, AfterScan, Selects, AfterLoad, AtLoad, LoadsFrom, Loads, Makes, AfterList, Answered}
 use Rattle.table_laws.specs.Rows.{Row}
 use Rattle.table_laws.specs.Operations.{Operation, operation_of}
 use Rattle.table_laws.specs.Operations as operations
 use Rattle.table_laws.proofs.CommitEffects.{effect_of}
 use Rattle.table_laws.specs.Levels.{Level}
-use Rattle.table_laws.specs.Runs.{or_first, listed_by, told_by, version_put, with_version, versions_put, GotIn, StoredIn, LoadedTo, KeptPart}
-use Rattle.table_laws.proofs.Lawful.{Known, NoPut, AllLost, first_past, judge_of, AllScanned, Cleared, Knows, versions_down, AllWon, ClaimsRows, Claim, IsFile, IsTable, IsCommit, AllLawful}
+use Rattle.table_laws.specs.Runs.{reply_in, or_first, listed_by, told_by, version_put, with_version, versions_put}
+use Rattle.table_laws.proofs.Sessions.{GotIn, StoredIn, LoadedTo, KnownKept}
+use Rattle.table_laws.proofs.Lawful.{Known, NoPut, AllLost, first_past, judge_of, AllScanned, Cleared, Knows, versions_down, AllWon, IsFile, IsTable, IsCommit, AllLawful}
 use Rattle.table_laws.proofs.Known.{loaded_more, knows_more, scanned_more, scanned_push}
-use Rattle.table_laws.proofs.Phases.{same_put, now_no_put, list_no_put, none_put, no_commit_put, lost_other, lost_to, given_more, known_more, Fresh, fresh_get, none_lost, ended_lost, was_cut, if_read, at_now, at_list, at_get, at_put_new, at_load, at_attempt}
+use Rattle.table_laws.proofs.Phases.{same_put, now_no_put, list_no_put, none_put, no_commit_put, lost_other, lost_to, given_more, known_more, Fresh, fresh_get, none_lost, replied, ended_lost, at_now, at_list, at_gets, at_put_new, at_attempt}
+use Rattle.table_laws.proofs.Loads.{Loading, loading_more, loading_on, all_loaded, base_known}
 use Rattle.table_laws.proofs.Texts.{append_says}
 
 -- a commit's put is one of its version, and a data file's of none
@@ -86,7 +90,7 @@ one_won e f past read v body got answer won k from to = by (nat_lt k v) refl
 -- what a statement knows before an attempt, after so many lost ones
 pub record Attempts (level : Level) (K : List ℕ → List ℕ → Type 0) (tag : Tag) (op : Operation) (start read : ℕ) (s : Snapshot) (view : List ℕ → List Row) (lost : ℕ) (past : Entries) : Type 0 where
   pub before : ℕ
-  pub next : read + 1 + lost ≡ suc before
+  pub next : suc read + lost ≡ suc before
   pub started : first_past told_by past ≡ Some start
   pub listed : first_past listed_by past ≡ Some read
   pub knows : Knows level tag op start read s view (Known K past) (StoredIn past) before
@@ -114,18 +118,19 @@ module _ (level : Level) (K : List ℕ → List ℕ → Type 0) (tag : Tag) (op 
       by n from to true e = k.clear n from (grind (arith, nat_tests))
       by n from to false e = let same : v ≡ n = grind (arith, nat_tests) in subst (λ (m : ℕ). Cleared G (judge_of level op view s.files) m) same (body, got, clear)
 
-  module _ (statement : Statement) (is_op : operation_of statement ≡ Some op) (j : CommitJudge)
-      (says : (v : ℕ) → read_commit (suc v) j.text ≡ Some (effect_of tag start op view s.files))
-      (clears : (k : ℕ) (body winner : List ℕ) → verdict_of j body ≡ verdict.Clear winner → (t : Commit) → read_commit (suc k) body ≡ Some t → judge_of level op view s.files t ≡ None) where
+  module _ (statement : Statement) (is_op : operation_of statement ≡ Some op) (plan : CommitPlan)
+      (says : (v : ℕ) → read_commit (suc v) plan.text ≡ Some (effect_of tag start op view s.files))
+      (clears : (k : ℕ) (body winner : List ℕ) → verdict_of plan body ≡ verdict.Clear winner → (t : Commit) → read_commit (suc k) body ≡ Some t → judge_of level op view s.files t ≡ None) where
     abbrev P : ℕ → Entries → Type 0
     P lost past = Attempts level K tag op start read s view lost past
 
-    said : (v version : ℕ) → suc v ≡ version → read_commit version j.text ≡ Some (effect_of tag start op view s.files)
-    said v version is = subst (λ (n : ℕ). read_commit n j.text ≡ Some (effect_of tag start op view s.files)) is (says v)
+    said : (v version : ℕ) → suc v ≡ version → read_commit version plan.text ≡ Some (effect_of tag start op view s.files)
+    said v version is = subst (λ (n : ℕ). read_commit n plan.text ≡ Some (effect_of tag start op view s.files)) is (says v)
 
-    pub attempts : (limit : ℕ) (reply : Option Reply) (left : ℕ) (past es : Entries) → read + 1 + (0 + left) < 2 ^ 64 → P 0 past → AtCommit reply left start (read + 1) j (committed read) es → AllLawful level K tag statement reply past es
-    attempts limit reply left past es small p h =
-        at_attempt level K tag statement j (record { start = start; retention = retention; first = read + 1 }) (committed read) P
+    pub attempts : (limit : ℕ) (out : Option Finish) (kept : Option Kept) (past es : Entries) → suc read + (0 + limit) < 2 ^ 64 → P 0 past → AtCommit tag limit out kept start (suc read) plan (committed read) es
+        → AllLawful level K tag statement (reply_in out) past es
+    attempts limit out kept past es small p h =
+        at_attempt level K tag statement out kept plan (record { start = start; retention = retention; first = suc read }) (committed read) P
         (λ lost past p. p.all_lost)
         (λ lost past e is p. record {
           before = p.before;
@@ -164,8 +169,8 @@ module _ (level : Level) (K : List ℕ → List ℕ → Type 0) (tag : Tag) (op 
           listed = given_more listed_by (e ∷ past) f read (given_more listed_by past e read p.listed);
           knows = won_over p.before (Known K (f ∷ e ∷ past)) (StoredIn (f ∷ e ∷ past)) body (inr (inl (got ∙ ap (λ (n : ℕ). Get (commit_text n)) p.next, answer))) (clears p.before body winner clear)
               (grown p.before (e ∷ past) f (grown p.before past e p.knows));
-          all_lost = lost_to e f past (commit_text (read + 1 + lost)) j.text body put got answer why p.all_lost;
-          puts = other_put f (e ∷ past) (Get (commit_text (read + 1 + lost))) got refl ∙ one_put e past (read + 1 + lost) j.text small put ∙ ap (λ (n : ℕ). n ∷ versions_put past) (let n : read + 1 + lost ≡ read + suc lost = omega arith in n)
+          all_lost = lost_to e f past (commit_text (suc read + lost)) plan.text body put got answer why p.all_lost;
+          puts = other_put f (e ∷ past) (Get (commit_text (suc read + lost))) got refl ∙ one_put e past (suc read + lost) plan.text small put ∙ ap (λ (n : ℕ). n ∷ versions_put past) (let n : suc read + lost ≡ read + suc lost = omega arith in n)
               ∙ ap (λ (l : List ℕ). (read + suc lost) ∷ l) p.puts;
           won = one_won e f past read p.before body (got ∙ ap (λ (n : ℕ). Get (commit_text n)) p.next) answer p.won;
         })
@@ -178,9 +183,9 @@ module _ (level : Level) (K : List ℕ → List ℕ → Type 0) (tag : Tag) (op 
           start = start;
           s = s;
           view = view;
-          body = j.text;
+          body = plan.text;
           says = said p.before l.version (let n = p.next in omega arith);
-          there = inl (inl (put ∙ ap (λ (v : ℕ). PutNew (commit_text v) j.text) (sym version), answer));
+          there = inl (inl (put ∙ ap (λ (v : ℕ). PutNew (commit_text v) plan.text) (sym version), answer));
         })
         (λ lost past e f l put fault got answer version attempts small p. record {
           sum = omega arith;
@@ -191,23 +196,23 @@ module _ (level : Level) (K : List ℕ → List ℕ → Type 0) (tag : Tag) (op 
           start = start;
           s = s;
           view = view;
-          body = j.text;
+          body = plan.text;
           says = said p.before l.version (let n = p.next in omega arith);
           there = inr (inl (got ∙ ap (λ (v : ℕ). Get (commit_text v)) (sym version), answer));
         })
-        reply left 0 [] past es small p h
+        limit 0 [] past es small p h
 
 module _ (level : Level) (K : List ℕ → List ℕ → Type 0) (tag : Tag) (limit : ℕ) (limited : limit < 2 ^ 32) where
   -- an append: its data file, then its commit
-  appends : (rows : List Row) → rows_of_text (text_of_rows rows) ≡ Some rows → (start read : ℕ) (reply : Option Reply) (s : Snapshot) (past es : Entries) → read < version_limit → LoadedTo (Known K past) (suc read) s → Fresh start read past
-      → Appends tag limit rows start read reply es → AllLawful level K tag (Insert rows) reply past es
-  appends rows faithful start read reply s past es small loaded fresh h =
-      at_put_new level K tag (Insert rows) (data_text tag start 0) (text_of_rows rows) reply _ _ _ past es (none_lost past fresh.none) (IsFile start refl fresh.none) h
-      (λ e rest put is on. ended_lost level K tag (Insert rows) _ reply (e ∷ past) rest (still e put) on)
+  appends : (rows : List Row) → rows_of_text (text_of_rows rows) ≡ Some rows → (out : Option Finish) (kept : Option Kept) (start read : ℕ) (s : Snapshot) (past es : Entries) → read < version_limit → LoadedTo (Known K past) (suc read) s → Fresh start read past
+      → Appends tag limit out rows kept start read es → AllLawful level K tag (Insert rows) (reply_in out) past es
+  appends rows faithful out kept start read s past es small loaded fresh h =
+      at_put_new level K tag (Insert rows) out kept (data_text tag start 0) (text_of_rows rows) _ _ _ past es (none_lost past fresh.none) (IsFile start refl fresh.none) h
+      (λ e rest put is on. ended_lost level K tag (Insert rows) out kept _ (e ∷ past) rest (still e put) on)
       (λ e rest put is on.
       attempts level K tag (operations.Insert rows) start read s (λ p. []) (Insert rows) refl (record { text = text_of_add (data_text tag start 0); makes_table = false })
       (append_says tag start rows (λ p. []) s.files) (λ k body winner clear t reads. refl)
-      limit reply limit (e ∷ past) rest (omega arith)
+      limit out kept (e ∷ past) rest (omega arith)
       (record {
         before = read;
         next = omega arith;
@@ -225,101 +230,121 @@ module _ (level : Level) (K : List ℕ → List ℕ → Type 0) (tag : Tag) (lim
         puts = other_put e past (PutNew (data_text tag start 0) (text_of_rows rows)) put (data_put tag start (text_of_rows rows)) ∙ no_versions past fresh.none;
         won = λ k from to. absurd (let a : read ≤ k = from in let b : k < read = to in omega arith);
       }) on)
-      (λ e rest put is on. ended_lost level K tag (Insert rows) _ reply (e ∷ past) rest (still e put) on)
+      (λ e rest put is on. ended_lost level K tag (Insert rows) out kept _ (e ∷ past) rest (still e put) on)
     where
       still : (e : JournalEntry) → e.call ≡ PutNew (data_text tag start 0) (text_of_rows rows) → AllLost (e ∷ past)
       still e put = lost_other e past (λ v b other. data_is_no_commit tag start 0 v (let two = same_put _ _ _ _ (sym put ∙ other) in two.0)) (none_lost past fresh.none)
 
-  -- a select: its files
-  files : (reply : Option Reply) (start read : ℕ) (s : Snapshot) (next : List ScannedFile → Entries → Type 0) (done paths : List (List ℕ)) (got : List ScannedFile) (past es : Entries)
-      → AllScanned (Known K past) done got → LoadedTo (Known K past) (suc read) s → Fresh start read past → AtFiles reply paths got next es
-      → ((got : List ScannedFile) (past rest : Entries) → AllScanned (Known K past) (done ++ paths) got → LoadedTo (Known K past) (suc read) s → Fresh start read past → next got rest → AllLawful level K tag Select reply past rest)
-      → AllLawful level K tag Select reply past es
-  files reply start read s next done [] got past es scanned loaded fresh h k = k got past es (subst (λ (ps : List (List ℕ)). AllScanned (Known K past) ps got) (sym (append-nil done)) scanned) loaded fresh h
-  files reply start read s next done (path ∷ paths) got past es scanned loaded fresh h k =
-      at_get level K tag Select _ _ path reply _ past es (none_lost past fresh.none) h (λ text e rest call answer on.
-      let later = fresh_get start read past e path call fresh in
-      if_read level K tag Select _ reply (λ rows. AtFiles reply paths (got ++ record { path = path; rows = rows } ∷ []) next) (e ∷ past) rest (read_file text) (none_lost (e ∷ past) later.none) on (λ rows reads on.
-      files reply start read s next (done ++ path ∷ []) paths (got ++ record { path = path; rows = rows } ∷ []) (e ∷ past) rest
-      (scanned_push (Known K (e ∷ past)) done got path (record { path = path; rows = rows }) (scanned_more (Known K past) (Known K (e ∷ past)) (known_more K past e) done got scanned) (text, inr (inl (call, answer)), reads))
-      (loaded_more (Known K past) (Known K (e ∷ past)) (known_more K past e) (suc read) s loaded)
-      later on
-      (λ all past' rest' sure l f on'. k all past' rest' (subst (λ (ps : List (List ℕ)). AllScanned (Known K past') ps all) (append_assoc done (path ∷ []) paths) sure) l f on')))
+  -- a select that has got these of its files
+  record Scans (start read : ℕ) (s : Snapshot) (f : Files) (past : Entries) : Type 0 where
+    done : List (List ℕ)
+    all : done ++ f.paths ≡ paths_of s.files
+    scanned : AllScanned (Known K past) done f.got
+    loaded : LoadedTo (Known K past) (suc read) s
+    fresh : Fresh start read past
 
-  selects : (start read : ℕ) (reply : Option Reply) (s : Snapshot) (past es : Entries) → LoadedTo (Known K past) (suc read) s → Fresh start read past → Selects tag limit read reply s es → AllLawful level K tag Select reply past es
-  selects start read reply s past es loaded fresh h =
-      files reply start read s _ [] (paths_of s.files) [] past es tt loaded fresh h (λ got past' rest scanned l f on. by got past' rest scanned l f on.0 on.1)
+  -- one file more
+  scans_on : (start read : ℕ) (s : Snapshot) (f new : Files) (name body : List ℕ) (e : JournalEntry) (past : Entries) → next_file f ≡ Some name → e.call ≡ Get name → e.answer ≡ Body body → scan_next f body ≡ Ok new → Scans start read s f past → Scans start read s new (e ∷ past)
+  scans_on start read s f new name body e past wanted call answer read_it x = by f.paths x.all wanted read_it
     where
-      claim : (got : List ScannedFile) (past : Entries) → AllScanned (Known K past) (paths_of s.files) got → LoadedTo (Known K past) (suc read) s → Fresh start read past
-          → (o : Option Reply) → IsReplied (IsSelected read (length s.files) got) o → Claim K tag Select o past
-      claim got past scanned l f None h = tt
-      claim got past scanned l f (Some Created) h = absurd h
-      claim got past scanned l f (Some (Committed v r a c)) h = absurd h
-      claim got past scanned l f (Some (Rows v rows fr fl)) h =
-          subst (λ (n : ℕ). ClaimsRows K past n rows fr fl) (sym h.0) (record { listed = f.listed; s = s; loaded = l; got = got; scanned = scanned; sorts = h.1; files_read = h.2; files_live = h.3 })
-      claim got past scanned l f (Some Killed) h = tt
-      claim got past scanned l f (Some (Refused r)) h = absurd h
+      with_file : (path : List ℕ) (paths : List (List ℕ)) (rows : List Row) → x.done ++ path ∷ paths ≡ paths_of s.files → path ≡ name → read_file body ≡ Some rows → record { paths = paths; got = f.got ++ record { path = path; rows = rows } ∷ [] } ≡ new
+          → Scans start read s new (e ∷ past)
+      with_file path paths rows all same reads is =
+          subst (λ (n : Files). Scans start read s n (e ∷ past)) is
+          (record {
+            done = x.done ++ path ∷ [];
+            all = append_assoc x.done (path ∷ []) paths ∙ all;
+            scanned = scanned_push (Known K (e ∷ past)) x.done f.got path (record { path = path; rows = rows }) (scanned_more (Known K past) (Known K (e ∷ past)) (known_more K past e) x.done f.got x.scanned)
+                (body, inr (inl (call ∙ ap (λ (n : List ℕ). Get n) (sym same), answer)), reads);
+            loaded = loaded_more (Known K past) (Known K (e ∷ past)) (known_more K past e) (suc read) s x.loaded;
+            fresh = fresh_get start read past e name call x.fresh;
+          })
 
-      by : (got : List ScannedFile) (past rest : Entries) → AllScanned (Known K past) (paths_of s.files) got → LoadedTo (Known K past) (suc read) s → Fresh start read past → rest ≡ [] → IsReplied (IsSelected read (length s.files) got) reply ⊎ IsCutShort reply
-          → AllLawful level K tag Select reply past rest
-      by got past rest scanned l f none (inl replied) = subst (λ (es : Entries). AllLawful level K tag Select reply past es) (sym none) (claim got past scanned l f reply replied)
-      by got past rest scanned l f none (inr short) = was_cut level K tag Select reply past rest (none_lost past f.none) (none, short)
+      by_rows : (path : List ℕ) (paths : List (List ℕ)) (o : Option (List Row)) → read_file body ≡ o → x.done ++ path ∷ paths ≡ paths_of s.files → path ≡ name → with_rows path paths f.got (file_fault body) o ≡ Ok new → Scans start read s new (e ∷ past)
+      by_rows path paths None reads all same is = cc
+      by_rows path paths (Some rows) reads all same is = with_file path paths rows all same reads (cc)
+
+      by : (paths : List (List ℕ)) → x.done ++ paths ≡ paths_of s.files → first_of paths ≡ Some name → scan_first paths f.got body ≡ Ok new → Scans start read s new (e ∷ past)
+      by [] all first is = cc
+      by (path ∷ paths) all first is = by_rows path paths (read_file body) refl all (cc) is
+
+  -- a select: its files, then their rows
+  selects : (out : Option Finish) (kept : Option Kept) (start read : ℕ) (s : Snapshot) (past es : Entries) → LoadedTo (Known K past) (suc read) s → Fresh start read past → Selects tag limit out s kept read es → AllLawful level K tag Select (reply_in out) past es
+  selects out kept start read s past es loaded fresh h =
+      at_gets level K tag Select out kept next_file scan_next refusal_of_scan (λ f rest. AfterScan tag limit out kept read (length s.files) f rest) (Scans start read s)
+      (λ f past x. none_lost past (x.fresh).none) (scans_on start read s)
+      (record { paths = paths_of s.files; got = [] }) past es (record { done = []; all = refl; scanned = tt; loaded = loaded; fresh = fresh }) h
+      (λ f past rest none x on. by f past rest x (none_left f.paths none) on)
+    where
+      none_left : (paths : List (List ℕ)) → first_of paths ≡ None → paths ≡ []
+      none_left [] none = refl
+      none_left (path ∷ paths) none = cc
+
+      by : (f : Files) (past rest : Entries) → Scans start read s f past → f.paths ≡ [] → AfterScan tag limit out kept read (length s.files) f rest → AllLawful level K tag Select (reply_in out) past rest
+      by f past rest x none (inl short) = ended_lost level K tag Select out kept refusal.NoMemory past rest (none_lost past (x.fresh).none) short
+      by f past rest x none (inr on) =
+          let all : x.done ≡ paths_of s.files = sym (append-nil x.done) ∙ ap (λ (ps : List (List ℕ)). x.done ++ ps) (sym none) ∙ x.all in
+          replied level K tag Select out kept (Rows read on.0 (length f.got) (length s.files)) past rest
+          (record {
+            listed = (x.fresh).listed;
+            s = s;
+            loaded = x.loaded;
+            got = f.got;
+            scanned = subst (λ (ps : List (List ℕ)). AllScanned (Known K past) ps f.got) all x.scanned;
+            sorts = on.1;
+            files_read = refl;
+            files_live = refl;
+          }) on.2
 
   -- the statement whose work over a loaded table it is
   abbrev whole : TableStatement → Statement
   whole (over.Insert rows) = Insert rows
   whole over.Select = Select
 
-  loaded_then : (statement : TableStatement) → ((rows : List Row) → whole statement ≡ Insert rows → rows_of_text (text_of_rows rows) ≡ Some rows) → (start read : ℕ) (reply : Option Reply) (s : Snapshot) (past es : Entries) → read < version_limit → LoadedTo (Known K past) (suc read) s → Fresh start read past
-      → AfterLoad tag limit statement start read reply s es → AllLawful level K tag (whole statement) reply past es
-  loaded_then (over.Insert rows) faithful start read reply s past es small loaded fresh h = appends rows (faithful rows refl) start read reply s past es small loaded fresh h
-  loaded_then over.Select faithful start read reply s past es small loaded fresh h = selects start read reply s past es loaded fresh h
+  loaded_then : (statement : TableStatement) → ((rows : List Row) → whole statement ≡ Insert rows → rows_of_text (text_of_rows rows) ≡ Some rows) → (out : Option Finish) (kept : Option Kept) (start read : ℕ) (s : Snapshot) (past es : Entries) → read < version_limit
+      → LoadedTo (Known K past) (suc read) s → Fresh start read past → AfterLoad tag limit out statement start read kept s es → AllLawful level K tag (whole statement) (reply_in out) past es
+  loaded_then (over.Insert rows) faithful out kept start read s past es small loaded fresh h = appends rows (faithful rows refl) out kept start read s past es small loaded fresh h
+  loaded_then over.Select faithful out kept start read s past es small loaded fresh h = selects out kept start read s past es loaded fresh h
 
-  -- the load begins with what is kept, or with no table
-  base_known : (kept : Option Kept) (v : ℕ) → KeptPart K kept → (LoadedTo K (load_from kept v) (load_base kept v)) × (load_count kept v + load_from kept v ≡ suc v)
-  base_known None v held = (refl, omega arith)
-  base_known (Some k) v held = by (nat_lt (v + 1) k.versions) refl
+  -- the newest version is loaded from a base on
+  at_base : (statement : TableStatement) → ((rows : List Row) → whole statement ≡ Insert rows → rows_of_text (text_of_rows rows) ≡ Some rows) → (out : Option Finish) (start v : ℕ) (base : Base) (past es : Entries) → v < version_limit
+      → Loading K (suc v) base.commits → Fresh start v past → AtLoad tag limit out statement start v base es → AllLawful level K tag (whole statement) (reply_in out) past es
+  at_base statement faithful out start v base past es small known fresh h =
+      at_gets level K tag (whole statement) out base.spare next_commit apply_next refusal_of_load
+      (λ c rest. AfterLoad tag limit out statement start v (Some (kept_after base.spare (record { versions = suc v; state = c.table }))) c.table rest) (λ c past. Loading (Known K past) (suc v) c × Fresh start v past)
+      (λ c past x. none_lost past (x.1).none)
+      (λ c new name body e past wanted call answer is x. (
+        loading_on (Known K (e ∷ past)) (suc v) c new name body wanted (inr (inl (call, answer))) is (loading_more (Known K past) (Known K (e ∷ past)) (known_more K past e) (suc v) c x.0),
+        fresh_get start v past e name call x.1,
+      ))
+      base.commits past es
+      (loading_more K (Known K past) (λ n b k. inl k) (suc v) base.commits known, fresh) h
+      (λ c past' rest done x on. loaded_then statement faithful out _ start v c.table past' rest small (all_loaded (Known K past') (suc v) c done x.0) x.1 on)
+
+  loads : (kept : Option Kept) → KnownKept K kept → (statement : TableStatement) → ((rows : List Row) → whole statement ≡ Insert rows → rows_of_text (text_of_rows rows) ≡ Some rows)
+      → (out : Option Finish) (start : ℕ) (l : List Listed) (o : Option ℕ) (past es : Entries) → NoPut past → first_past told_by past ≡ Some start → ((v : ℕ) → o ≡ Some v → first_past listed_by past ≡ Some v)
+      → Loads tag limit out statement start l kept o es → AllLawful level K tag (whole statement) (reply_in out) past es
+  loads kept held statement faithful out start l None past es none started seen h = ended_lost level K tag (whole statement) out kept refusal.NoTable past es (none_lost past none) h
+  loads kept held statement faithful out start l (Some v) past es none started seen h = by (nat_lt v version_limit) refl h
     where
-      by : (b : Bool) → nat_lt (v + 1) k.versions ≡ b → (LoadedTo K (if b then 0 else k.versions) (if b then no_table else k.state)) × ((if b then suc v else v + 1 - k.versions) + (if b then 0 else k.versions) ≡ suc v)
-      by true e = (refl, omega arith)
-      by false e = (held, let le : k.versions ≤ v + 1 = grind (arith, nat_tests) in omega arith)
+      from : v < version_limit → (o : Option ℕ) → MatchOption o (AtLoad tag limit out statement start v (base_of kept v) es) (λ k. Ends out kept (refusal.LogGone (commit_text k)) es) → AllLawful level K tag (whole statement) (reply_in out) past es
+      from small (Some k) on = ended_lost level K tag (whole statement) out kept (refusal.LogGone (commit_text k)) past es (none_lost past none) on
+      from small None on = at_base statement faithful out start v (base_of kept v) past es small (base_known K kept v held).0 (record { none = none; started = started; listed = seen v refl }) on
 
-  loads : (kept : Option Kept) → KeptPart K kept → (statement : TableStatement) → ((rows : List Row) → whole statement ≡ Insert rows → rows_of_text (text_of_rows rows) ≡ Some rows)
-      → (start : ℕ) (l : List Listed) (reply : Option Reply) (o : Option ℕ) (past es : Entries) → NoPut past → first_past told_by past ≡ Some start → ((v : ℕ) → o ≡ Some v → first_past listed_by past ≡ Some v)
-      → Loads tag limit kept statement start l reply o es → AllLawful level K tag (whole statement) reply past es
-  loads kept held statement faithful start l reply None past es none started seen h = ended_lost level K tag (whole statement) refusal.NoTable reply past es (none_lost past none) h
-  loads kept held statement faithful start l reply (Some v) past es none started seen h = by (nat_lt v version_limit) refl h
-    where
-      from : v < version_limit → (o : Option ℕ) → MatchOption o (AtLoad reply (load_count kept v) (load_from kept v) (load_base kept v) (AfterLoad tag limit statement start v reply) es) (λ k. Ends reply (refusal.LogGone (commit_text k)) es)
-          → AllLawful level K tag (whole statement) reply past es
-      from small (Some k) on = ended_lost level K tag (whole statement) _ reply past es (none_lost past none) on
-      from small None on =
-          let base = base_known kept v held in
-          at_load level K tag (whole statement) start v reply (load_count kept v) (load_from kept v) (load_base kept v) _ past es
-          (loaded_more K (Known K past) (λ n b k. inl k) (load_from kept v) (load_base kept v) base.0) (record { none = none; started = started; listed = seen v refl }) on
-          (λ past' s rest loaded fresh on'.
-          loaded_then statement faithful start v reply s past' rest small (subst (λ (m : ℕ). LoadedTo (Known K past') m s) base.1 loaded) fresh on')
+      cut_or : v < version_limit → LoadsFrom tag limit out statement start l kept v (base_of kept v) es → AllLawful level K tag (whole statement) (reply_in out) past es
+      cut_or small (inl short) = ended_lost level K tag (whole statement) out kept refusal.NoMemory past es (none_lost past none) short
+      cut_or small (inr on) = from small (missing l (base_of kept v).commits.at (commits_left (base_of kept v).commits)) on
 
-      cut_or : v < version_limit → Cut reply es
-          ⊎ MatchOption (missing l (load_from kept v) (load_count kept v)) (AtLoad reply (load_count kept v) (load_from kept v) (load_base kept v) (AfterLoad tag limit statement start v reply) es) (λ k. Ends reply (refusal.LogGone (commit_text k)) es)
-          → AllLawful level K tag (whole statement) reply past es
-      cut_or small (inl short) = was_cut level K tag (whole statement) reply past es (none_lost past none) short
-      cut_or small (inr on) = from small (missing l (load_from kept v) (load_count kept v)) on
-
-      by : (b : Bool) → nat_lt v version_limit ≡ b
-          → MatchBool b
-          (Cut reply es
-          ⊎ MatchOption (missing l (load_from kept v) (load_count kept v)) (AtLoad reply (load_count kept v) (load_from kept v) (load_base kept v) (AfterLoad tag limit statement start v reply) es) (λ k. Ends reply (refusal.LogGone (commit_text k)) es))
-          (Ends reply (refusal.Unsupported Versions) es)
-          → AllLawful level K tag (whole statement) reply past es
+      by : (b : Bool) → nat_lt v version_limit ≡ b → MatchBool b (LoadsFrom tag limit out statement start l kept v (base_of kept v) es) (Ends out kept (refusal.Unsupported Versions) es)
+          → AllLawful level K tag (whole statement) (reply_in out) past es
       by true e on = cut_or (grind (arith, nat_tests)) on
-      by false e on = ended_lost level K tag (whole statement) _ reply past es (none_lost past none) on
+      by false e on = ended_lost level K tag (whole statement) out kept (refusal.Unsupported Versions) past es (none_lost past none) on
 
   -- the making of a table
-  makes : (spec : TableSpec) (start : ℕ) (reply : Option Reply) (o : Option ℕ) (past es : Entries) → NoPut past → Makes tag limit spec.columns start reply o es → AllLawful level K tag (Table spec) reply past es
-  makes spec start reply (Some v) past es none h = ended_lost level K tag (Table spec) refusal.TableThere reply past es (none_lost past none) h
-  makes spec start reply None past es none h =
-      at_attempt level K tag (Table spec) (record { text = text_of_columns (names_of spec.columns); makes_table = true }) (record { start = start; retention = retention; first = 0 }) (λ l. Created) (λ lost past. (lost ≡ 0) × NoPut past)
+  makes : (spec : TableSpec) (start : ℕ) (out : Option Finish) (kept : Option Kept) (o : Option ℕ) (past es : Entries) → NoPut past → Makes tag limit out spec.columns start kept o es → AllLawful level K tag (Table spec) (reply_in out) past es
+  makes spec start out kept (Some v) past es none h = ended_lost level K tag (Table spec) out kept refusal.TableThere past es (none_lost past none) h
+  makes spec start out kept None past es none h =
+      at_attempt level K tag (Table spec) out kept (record { text = text_of_columns (names_of spec.columns); makes_table = true }) (record { start = start; retention = retention; first = 0 }) (λ l. Created) (λ lost past. (lost ≡ 0) × NoPut past)
       (λ lost past p. none_lost past p.1)
       (λ lost past e is p. (p.0, none_put e past Now is now_no_put p.1))
       (λ lost past small p. IsTable spec refl (ap commit_text (first lost p.0)) refl p.1)
@@ -331,7 +356,7 @@ module _ (level : Level) (K : List ℕ → List ℕ → Type 0) (tag : Tag) (lim
       let here = put_first e lost p.0 put in
       let there : f.call ≡ Get (commit_text 0) = got ∙ ap (λ (n : ℕ). Get (commit_text n)) (first lost p.0) in
       record { spec = spec; is_table = refl; puts = other_put f (e ∷ past) (Get (commit_text 0)) there refl ∙ put_once e past p.1 here; there = inr (inl (there, answer), inr (inl (here, fault))) })
-      reply limit 0 [] past es (omega arith) (refl, none) h
+      limit 0 [] past es (omega arith) (refl, none) h
     where
       first : (lost : ℕ) → lost ≡ 0 → 0 + lost ≡ 0
       first lost is = omega arith
@@ -342,21 +367,21 @@ module _ (level : Level) (K : List ℕ → List ℕ → Type 0) (tag : Tag) (lim
       put_once : (e : JournalEntry) (past : Entries) → NoPut past → e.call ≡ PutNew (commit_text 0) (text_of_columns (names_of spec.columns)) → versions_put (e ∷ past) ≡ 0 ∷ []
       put_once e past none put = one_put e past 0 (text_of_columns (names_of spec.columns)) (omega arith) put ∙ ap (λ (vs : List ℕ). 0 ∷ vs) (no_versions past none)
 
-  after_listing : (kept : Option Kept) → KeptPart K kept → (statement : Statement) → ((rows : List Row) → statement ≡ Insert rows → rows_of_text (text_of_rows rows) ≡ Some rows)
-      → (start : ℕ) (reply : Option Reply) (l : List Listed) (past es : Entries) → NoPut past → first_past told_by past ≡ Some start → ((v : ℕ) → newest l ≡ Some v → first_past listed_by past ≡ Some v)
-      → AfterListing tag limit kept statement start reply l es → AllLawful level K tag statement reply past es
-  after_listing kept held (Table spec) faithful start reply l past es none started seen h = makes spec start reply (newest l) past es none h
-  after_listing kept held (Insert rows) faithful start reply l past es none started seen h = loads kept held (over.Insert rows) faithful start l reply (newest l) past es none started seen h
-  after_listing kept held Select faithful start reply l past es none started seen h = loads kept held over.Select faithful start l reply (newest l) past es none started seen h
+  after_list : (kept : Option Kept) → KnownKept K kept → (statement : Statement) → ((rows : List Row) → statement ≡ Insert rows → rows_of_text (text_of_rows rows) ≡ Some rows)
+      → (out : Option Finish) (start : ℕ) (l : List Listed) (past es : Entries) → NoPut past → first_past told_by past ≡ Some start → ((v : ℕ) → newest l ≡ Some v → first_past listed_by past ≡ Some v)
+      → AfterList tag limit out statement kept start l es → AllLawful level K tag statement (reply_in out) past es
+  after_list kept held (Table spec) faithful out start l past es none started seen h = makes spec start out kept (newest l) past es none h
+  after_list kept held (Insert rows) faithful out start l past es none started seen h = loads kept held (over.Insert rows) faithful out start l (newest l) past es none started seen h
+  after_list kept held Select faithful out start l past es none started seen h = loads kept held over.Select faithful out start l (newest l) past es none started seen h
 
   -- an answered statement's entries are lawful
-  pub answered_lawful : (kept : Option Kept) → KeptPart K kept → (statement : Statement) → ((rows : List Row) → statement ≡ Insert rows → rows_of_text (text_of_rows rows) ≡ Some rows)
-      → (es : Entries) (reply : Option Reply) → Answered tag limit kept statement es reply → AllLawful level K tag statement reply [] es
-  answered_lawful kept held statement faithful es reply h =
-      at_now level K tag statement _ reply _ [] es (none_lost [] (λ n b a k. absurd k)) h (λ start e rest now time on.
+  pub answered_lawful : (kept : Option Kept) → KnownKept K kept → (statement : Statement) → ((rows : List Row) → statement ≡ Insert rows → rows_of_text (text_of_rows rows) ≡ Some rows)
+      → (es : Entries) (out : Option Finish) → Answered tag limit kept statement es out → AllLawful level K tag statement (reply_in out) [] es
+  answered_lawful kept held statement faithful es out h =
+      at_now level K tag statement out kept _ _ [] es (none_lost [] (λ n b a k. absurd k)) h (λ start e rest now time on.
       let quiet = none_put e [] Now now now_no_put (λ n b a k. absurd k) in
-      at_list level K tag statement _ log_prefix reply _ (e ∷ []) rest (none_lost (e ∷ []) quiet) on (λ l f rest' call names on'.
-      after_listing kept held statement faithful start reply l (f ∷ e ∷ []) rest'
+      at_list level K tag statement out kept _ log_prefix _ (e ∷ []) rest (none_lost (e ∷ []) quiet) on (λ l f rest' call names on'.
+      after_list kept held statement faithful out start l (f ∷ e ∷ []) rest'
       (none_put f (e ∷ []) (ListNames log_prefix) call (list_no_put log_prefix) quiet)
       (given_more told_by (e ∷ []) f start (ap (λ (x : Call). told_by x e.answer) now ∙ ap (λ (a : Answer). told_by Now a) time))
       (λ v is.

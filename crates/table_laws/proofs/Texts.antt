@@ -7,7 +7,7 @@ use Rattle.table_rules.specs.Names.{data_text}
 use Rattle.line_texts.specs.Texts.{columns_of_text, path_of_text, text_of_add}
 use Rattle.line_texts.proofs.Laws.{path_reads_back}
 use Rattle.snapshot_replay.specs.Table.{Add, table_commit, append_commit}
-use Rattle.txn_machine.specs.Texts.{read_commit}
+use Rattle.statement_calls.specs.Texts.{read_commit}
 use Rattle.table_laws.specs.Rows.{Row}
 use Rattle.table_laws.specs.Operations.{Insert}
 use Rattle.table_laws.proofs.CommitEffects.{effect_of}

@@ -12,7 +12,7 @@ use Rattle.table_laws.specs.History.{Put, put_under}
 use Rattle.table_laws.specs.Runs.{version_put, with_version, versions_put}
 use Rattle.table_laws.specs.Laws.{versions_from}
 use Rattle.table_laws.proofs.Lawful.{versions_down}
-use Rattle.table_laws.proofs.Journals.{backwards}
+use Rattle.table_laws.proofs.Shown.{backwards}
 
 -- the first list from its end, before the second
 abbrev pub onto : List ℕ → List ℕ → List ℕ

@@ -10,7 +10,7 @@ use Rattle.edge_api.specs.declared.call.Object.{Object}
 use Rattle.edge_api.specs.Journal.{Objects, Moment, after_moment, object_at}
 use Rattle.table_rules.specs.Names.{commit_text}
 use Rattle.snapshot_replay.specs.Table.{Commit}
-use Rattle.txn_machine.specs.Texts.{read_commit, read_file}
+use Rattle.statement_calls.specs.Texts.{read_commit, read_file}
 use Rattle.table_laws.specs.Rows.{Row}
 use Rattle.table_laws.specs.Files.{live_by, rows_in}
 

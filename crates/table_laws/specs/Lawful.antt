@@ -1,12 +1,12 @@
 -- The law of a run: what holds of every legal completion of its journal.
-use Rattle.std.specs.Prelude.{◌≡◌, ℕ, List, [], Option}
+use Rattle.std.specs.Prelude.{ℕ, List, [], Option}
 use Rattle.edge_api.specs.declared.call.Tag.{Tag}
 use Rattle.edge_api.specs.Journal.{Moment, IsLegal, entries_of}
 use Rattle.op_types.specs.declared.statement.Statement.{Statement}
 use Rattle.op_types.specs.declared.reply.Reply.{Reply}
-use Rattle.txn_machine.specs.Answered.{Kept}
+use Rattle.statement_calls.specs.declared.finish.Finish.{Finish}
 use Rattle.table_laws.specs.Levels.{Level}
-use Rattle.table_laws.specs.Runs.{IsRun}
+use Rattle.table_laws.specs.Runs.{IsRun, replies_of}
 use Rattle.table_laws.specs.Laws.{VersionsAreSerial, CommitsOnce, FirstIsEmpty, FirstMakesTable, CommitsRead, FilesRead, CommitsLand, CommitPutsAreDecided, RepliesCreated, RepliesCommitted, RepliesRead}
 use Rattle.table_laws.specs.Folded.{RowsAreFolded}
 use Rattle.table_laws.specs.Refused.{RefusedCommitNothing}
@@ -37,5 +37,5 @@ pub record IsLawful (script : Tag → Option Statement) (replies : Tag → Optio
 -- every legal completion of a run's journal is lawful
 abbrev pub EachRunIsLawful : Type 0
 EachRunIsLawful =
-    (limit : ℕ) (script : Tag → Option Statement) (kepts : Tag → Option Kept) (replies : Tag → Option Reply) (moments : List Moment) → IsLegal [] 0 moments
-    → IsRun limit script kepts replies (entries_of moments) → IsLawful script replies moments
+    (limit : ℕ) (script : Tag → Option Statement) (outcomes : Tag → Option Finish) (moments : List Moment) → IsLegal [] 0 moments
+    → IsRun limit script outcomes (entries_of moments) → IsLawful script (replies_of outcomes) moments

@@ -16,8 +16,8 @@ use Rattle.table_rules.specs.Names.{commit_text}
 use Rattle.line_texts.specs.Texts.{text_of_columns, is_word}
 use Rattle.snapshot_replay.specs.Table.{Add, Commit, table_commit}
 use Rattle.call_phases.specs.Phases.{Entries}
-use Rattle.txn_machine.specs.Texts.{read_commit, read_file}
-use Rattle.txn_machine.specs.Answered.{names_of}
+use Rattle.statement_calls.specs.Texts.{read_commit, read_file}
+use Rattle.statement_calls.specs.Answered.{names_of}
 use Rattle.actor_core.specs.Entries.{own}
 use Rattle.table_laws.specs.Rows.{Row}
 use Rattle.table_laws.specs.Operations.{Operation, operation_of, inserted}

@@ -5,29 +5,56 @@ use Rattle.edge_api.specs.declared.call.Tag.{Tag}
 use Rattle.edge_api.specs.declared.call.Call.{Call}
 use Rattle.edge_api.specs.declared.call.Call.TheVariants.{Get, PutNew, Put as Replace, List as ListNames, Delete, Now, Wait}
 use Rattle.edge_api.specs.declared.call.Answer.{Answer}
-use Rattle.edge_api.specs.declared.call.Answer.TheVariants.{Body, Stored, Names, Time}
+use Rattle.edge_api.specs.declared.call.Answer.TheVariants.{Names, Time}
 use Rattle.row_base.specs.declared.row.Datum.{Datum}
 use Rattle.op_types.specs.declared.statement.Statement.{Statement}
 use Rattle.op_types.specs.declared.statement.Statement.TheVariants.{Insert}
 use Rattle.op_types.specs.declared.reply.Reply.{Reply}
-use Rattle.table_rules.specs.Names.{log_prefix, commit_text}
+use Rattle.table_rules.specs.Names.{log_prefix}
 use Rattle.table_rules.specs.Told.{IsTag}
 use Rattle.line_texts.specs.Texts.{text_of_rows, rows_of_text}
-use Rattle.snapshot_replay.specs.Table.{Commit, Snapshot, no_table, applied}
 use Rattle.call_phases.specs.Phases.{Entries}
-use Rattle.txn_machine.specs.Phases.{newest, commit_version}
-use Rattle.txn_machine.specs.Texts.{read_commit}
-use Rattle.txn_machine.specs.Answered.{Kept, Answered}
+use Rattle.statement_calls.specs.declared.finish.Kept.{Kept}
+use Rattle.statement_calls.specs.declared.finish.Finish.{Finish}
+use Rattle.statement_calls.specs.Listing.{newest, commit_version}
+use Rattle.statement_calls.specs.Answered.{Answered}
 use Rattle.actor_core.specs.Entries.{own}
 
--- the entries of a tag answer its statement, if it has one, and are none otherwise
-abbrev pub IsAnsweredPart : ℕ → Tag → Option Kept → Option Statement → Entries → Option Reply → Type 0
-IsAnsweredPart limit tag kept None part reply = part ≡ []
-IsAnsweredPart limit tag kept (Some statement) part reply = Answered tag limit kept statement part reply
+-- the reply of an outcome, where there is one
+abbrev pub reply_in : Option Finish → Option Reply
+reply_in None = None
+reply_in (Some finish) = Some finish.reply
 
--- each statement of the script is answered by its own entries, and nothing else makes any. A statement with no reply is still open
-abbrev pub IsAnswered : ℕ → (Tag → Option Statement) → (Tag → Option Kept) → (Tag → Option Reply) → Entries → Type 0
-IsAnswered limit script kepts replies journal = (tag : Tag) → IsAnsweredPart limit tag (kepts tag) (script tag) (own tag journal) (replies tag)
+-- what an outcome keeps for its session's next statement
+abbrev pub kept_in : Option Finish → Option Kept
+kept_in None = None
+kept_in (Some finish) = finish.kept
+
+-- the reply of each tag
+abbrev pub replies_of : (Tag → Option Finish) → Tag → Option Reply
+replies_of outcomes tag = reply_in (outcomes tag)
+
+-- what the statement before an actor's statement of this number kept; nothing is before the first
+abbrev pub kept_at : (Tag → Option Finish) → ℕ → ℕ → Option Kept
+kept_at outcomes actor zero = None
+kept_at outcomes actor (suc n) = kept_in (outcomes (record { actor = actor; statement = n }))
+
+abbrev pub kept_before : (Tag → Option Finish) → Tag → Option Kept
+kept_before outcomes tag = kept_at outcomes tag.actor tag.statement
+
+-- the entries of a tag answer its statement, if it has one, and are none otherwise
+abbrev pub IsAnsweredPart : ℕ → Tag → Option Kept → Option Statement → Entries → Option Finish → Type 0
+IsAnsweredPart limit tag kept None part out = (part ≡ []) × (out ≡ None)
+IsAnsweredPart limit tag kept (Some statement) part out = Answered tag limit kept statement part out
+
+-- a statement begins with nothing kept, or with what its session's statement before it kept
+abbrev pub BeginsWith : (Tag → Option Finish) → Tag → Option Kept → Type 0
+BeginsWith outcomes tag kept = (kept ≡ None) ⊎ (kept ≡ kept_before outcomes tag)
+
+-- each statement of the script is answered by its own entries, and nothing else makes any. A statement with no outcome is still open
+abbrev pub IsAnswered : ℕ → (Tag → Option Statement) → (Tag → Option Finish) → Entries → Type 0
+IsAnswered limit script outcomes journal =
+    (tag : Tag) → (kept : Option Kept) × BeginsWith outcomes tag kept × IsAnsweredPart limit tag kept (script tag) (own tag journal) (outcomes tag)
 
 -- the first of two, if it is there
 abbrev pub or_first : {A : Type 0} → Option A → Option A → Option A
@@ -77,39 +104,9 @@ abbrev pub versions_put : Entries → List ℕ
 versions_put [] = []
 versions_put (e ∷ es) = with_version (version_put e.call) (versions_put es)
 
--- a body was got, or a put of it was answered as stored
-abbrev pub GotIn : Entries → List ℕ → List ℕ → Type 0
-GotIn [] name body = ⊥
-GotIn (e ∷ es) name body = ((e.call ≡ Get name) × (e.answer ≡ Body body)) ⊎ GotIn es name body
-
--- a put of the body under the name was answered as stored
-abbrev pub StoredIn : Entries → List ℕ → List ℕ → Type 0
-StoredIn [] name body = ⊥
-StoredIn (e ∷ es) name body = ((e.call ≡ PutNew name body) × (e.answer ≡ Stored)) ⊎ StoredIn es name body
-
--- the table of so many versions, by the bodies that are known under the names of their commits
-abbrev pub LoadedTo : (List ℕ → List ℕ → Type 0) → ℕ → Snapshot → Type 0
-LoadedTo knows zero s = s ≡ no_table
-LoadedTo knows (suc v) s = (r : Snapshot) × (text : List ℕ) × (t : Commit) × LoadedTo knows v r × knows (commit_text v) text
-    × (read_commit v text ≡ Some t) × (s ≡ applied r t)
-
--- what the statements of a tag's session got or stored, before or after
-abbrev pub SessionKnows : Entries → Tag → List ℕ → List ℕ → Type 0
-SessionKnows journal tag name body = (other : Tag) × (other.actor ≡ tag.actor) × (GotIn (own other journal) name body ⊎ StoredIn (own other journal) name body)
-
--- what is kept of a load is the table of its versions, by what is known
-abbrev pub KeptPart : (List ℕ → List ℕ → Type 0) → Option Kept → Type 0
-KeptPart knows None = Unit {0}
-KeptPart knows (Some k) = LoadedTo knows k.versions k.state
-
--- what a statement starts from was got or stored by its session
-abbrev pub KeptHolds : Entries → (Tag → Option Kept) → Type 0
-KeptHolds journal kepts = (tag : Tag) → KeptPart (SessionKnows journal tag) (kepts tag)
-
 -- the journal of a run of a script: it answers each statement of the script
-pub record IsRun (limit : ℕ) (script : Tag → Option Statement) (kepts : Tag → Option Kept) (replies : Tag → Option Reply) (journal : Entries) : Type 0 where
-  pub answered : IsAnswered limit script kepts replies journal
-  pub kept : KeptHolds journal kepts
+pub record IsRun (limit : ℕ) (script : Tag → Option Statement) (outcomes : Tag → Option Finish) (journal : Entries) : Type 0 where
+  pub answered : IsAnswered limit script outcomes journal
   -- attempts are counted by 32 bits, and tags by 16 and 32
   pub limited : limit < 2 ^ 32
   pub tags : (tag : Tag) (statement : Statement) → script tag ≡ Some statement → IsTag tag

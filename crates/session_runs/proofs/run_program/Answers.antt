@@ -1,4 +1,4 @@
-use Rattle.std.proofs.Common.{rules, refl, ap, List, ℕ, ◌∙◌, ◌≡◌, ◌≤◌, ◌<◌, [], ◌∷◌, length, sym, subst}
+use Rattle.std.proofs.Common.{rules, ap, List, ℕ, ◌∙◌, ◌≡◌, ◌≤◌, ◌<◌, [], ◌∷◌, length, sym, subst}
 use Rattle.std.specs.Prelude.{map, All}
 use Rattle.op_types.specs.declared.statement.Statement.TheVariants.{Table}
 use Rattle.op_types.specs.declared.reply.Reply.{Reply}

@@ -1,8 +1,9 @@
-use Rattle.std.proofs.Common.{rules, inr, ◌≡◌, ◌≤◌, ◌+◌, ◌*◌, ℕ, length, Option, Some, None, sym, ◌∙◌, ap, subst, arith}
+use Rattle.std.proofs.Common.{rules, inr, ◌≡◌, ◌≤◌, ◌+◌, length, Option, Some, None, sym, ◌∙◌, ap, subst, arith}
 use Rattle.std.specs.Prelude.{vec_capacity, IfSome}
 use Rattle.edge_api.specs.declared.actor.Stage.TheVariants as place
 use Rattle.txn_machine.specs.Place.{place_of}
 use Rattle.txn_machine.specs.declared.txn.Txn.{Txn}
+use Rattle.statement_calls.specs.Bounds.{most_calls}
 use Rattle.txn_machine.specs.Machine.{left_of}
 use Rattle.sessions.specs.Session.{later_plans, RestBy, count_now, left_now}
 use Rattle.sessions.proofs.Sessions.{begun_left}
@@ -15,9 +16,8 @@ turns-preserved c =
     let e = c.turn.ensures in
     let new = c.turn.new.self in
     let is : c.turn.result ≡ Some c.in-Some.next = search rules in
-    let most : left_now c.turn.result ≤ count_now c.turn.result * (3 * c.args.self.now.limit + 2097201) = subst (λ (n : ℕ). left_now c.turn.result ≤ count_now c.turn.result * (3 * n + 2097201)) i.limit e.left in
-    let whole = begun_left (length new.later.items) (count_now c.turn.result) (length c.turns.self.later.items) (3 * c.args.self.now.limit + 2097201) (left_now c.turn.result) (left_of c.turns.txn.plan c.turns.txn.stage) most e.fewer in
-    let now : left_now c.turn.result ≡ left_of c.in-Some.next.plan c.in-Some.next.stage = ap left_now is in
+    let whole = begun_left (length new.later.items) (count_now c.turn.result) (length c.turns.self.later.items) (1 + most_calls) (left_now c.turn.result) (left_of c.turns.txn.stage) e.left e.fewer in
+    let now : left_now c.turn.result ≡ left_of c.in-Some.next.stage = ap left_now is in
     let fresh = next_is c.turn.result c.in-Some.next c.turns.self.next new.next is e.fresh in
     record {
       ready = search rules;

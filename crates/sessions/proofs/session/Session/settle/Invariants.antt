@@ -2,6 +2,7 @@ use Rattle.std.proofs.Common.{◌≡◌, ◌≤◌, ◌<◌, ◌+◌, ◌*◌, B
 use Rattle.std.specs.Prelude.{Some, None, vec_capacity}
 use Rattle.op_types.specs.declared.reply.Reply.{Reply}
 use Rattle.call_phases.specs.Phases.{Entries}
+use Rattle.statement_calls.specs.Bounds.{most_calls}
 use Rattle.txn_machine.specs.Machine.{left_of}
 use Rattle.txn_machine.specs.Txn as txn
 use Rattle.sessions.specs.Session.{RestBy, later_plans, IsCounted, GoesOnBy}
@@ -10,7 +11,7 @@ use Rattle.sessions.proofs.session.Session.settle.Given as goal
 abbrev pub invariant-turns : goal.invariant-turns
 invariant-turns l = record {
   ready : txn.IsReady l.txn;
-  tag : l.txn.plan.tag.actor ≡ l.initial.self.actor;
+  tag : l.txn.tag.actor ≡ l.initial.self.actor;
   actor : l.self.actor ≡ l.initial.self.actor;
   limit : l.self.limit ≡ l.initial.self.limit;
   kill : l.self.kill ≡ l.initial.self.kill;
@@ -19,7 +20,7 @@ invariant-turns l = record {
   numbers : l.self.next + length l.self.later.items < 4294967296;
   counted : IsCounted (Some l.txn) (length l.self.replies.items) l.self.next;
   goes_on : GoesOnBy l.initial.txn l.initial.self.replies.items l.txn l.self.replies.items;
-  left : length l.self.later.items * (3 * l.initial.self.limit + 2097201) + left_of l.txn.plan l.txn.stage ≤ length l.initial.self.later.items * (3 * l.initial.self.limit + 2097201) + left_of l.initial.txn.plan l.initial.txn.stage;
+  left : length l.self.later.items * (1 + most_calls) + left_of l.txn.stage ≤ length l.initial.self.later.items * (1 + most_calls) + left_of l.initial.txn.stage;
   turns : (killed : Bool) (es : Entries) (all : List Reply) → RestBy killed l.self.replies.items (Some l.txn) (later_plans l.self) es all → RestBy killed l.initial.self.replies.items (Some l.initial.txn) (later_plans l.initial.self) es all;
 }
 

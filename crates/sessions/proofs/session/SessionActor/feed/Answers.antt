@@ -1,5 +1,6 @@
 use Rattle.std.proofs.Common.{rules, ◌≡◌, ◌∙◌, ap, ℕ, ◌≤◌, ◌+◌, ◌*◌, length, Some, subst, arith}
 use Rattle.edge_api.specs.declared.actor.Fed.TheVariants as fed
+use Rattle.statement_calls.specs.Bounds.{most_calls}
 use Rattle.txn_machine.specs.Machine.{left_of}
 use Rattle.sessions.specs.Session.{left, count_of, IsReadyNow}
 use Rattle.sessions.proofs.Sessions.{asked, event_goes, event_falls, has_calls}
@@ -35,7 +36,7 @@ returns-in-Some-clause-fed c old tag call asks =
     let is : self.current ≡ Some c.in-Some.txn = search rules in
     let o = asked old tag call self c.in-Some.txn asks is in
     let f = c.feed.ensures.fed o.before tag call o.asks in
-    let most : left c.count.new.self ≤ length self.later.items * (3 * self.limit + 2097201) + left_of t.plan t.stage = omega (arith, c.count.ensures.falls, c.settle.ensures.falls) in
+    let most : left c.count.new.self ≤ length self.later.items * (1 + most_calls) + left_of t.stage = omega (arith, c.count.ensures.falls, c.settle.ensures.falls) in
     let actor : c.count.new.self.actor ≡ old.actor = c.count.ensures.actor ∙ c.settle.ensures.actor ∙ asks.actor in
     let ready : IsReadyNow c.count.new.self.current old.actor c.count.new.self.later.items = subst (λ (n : ℕ). IsReadyNow c.count.new.self.current n c.count.new.self.later.items) actor c.count.ensures.ready.settled.now in
     let kept : c.args.answer ≡ fed.NoMemory → (c.count.new.self.current ≡ new.current) × (c.count.new.self.replies.items ≡ new.replies.items) =
