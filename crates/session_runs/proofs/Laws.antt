@@ -1,5 +1,6 @@
 -- A run of sessions is a run of a script, for which the laws of a table hold.
 use Rattle.std.proofs.Common.{◌≡◌, ◌≢◌, inl, inr, ℕ, zero, suc, ◌+◌, ◌<◌, ◌≤◌, ◌^◌, ◌==◌, ◌&&◌, Bool, true, false, List, [], ◌∷◌, ◌++◌, length, refl, sym, ◌∙◌, ap, subst, arith}
+use Rattle.row_base.specs.declared.limits.TheConstants.{MAX_ATTEMPTS, MAX_SESSIONS, MAX_STATEMENTS}
 use Rattle.std.proofs.lemmas.List.{append-nil}
 use Rattle.std.proofs.lemmas.Option.{slice_get_within}
 use Rattle.std.proofs.lemmas.Bool.{lt-ltb}
@@ -146,9 +147,9 @@ found scripts t st h = by (slice_get scripts t.actor) refl h
     by None at e = cc
     by (Some sts) at e = counts sts at t.statement refl e
 
-few_of : (table : Statement) (sessions : List (List Statement)) (i : ℕ) (sts : List Statement) → All (λ s. length s ≤ 4096) sessions → slice_get ((table ∷ []) ∷ sessions) i ≡ Some sts → length sts ≤ 4096
+few_of : (table : Statement) (sessions : List (List Statement)) (i : ℕ) (sts : List Statement) → All (λ s. length s ≤ MAX_STATEMENTS) sessions → slice_get ((table ∷ []) ∷ sessions) i ≡ Some sts → length sts ≤ MAX_STATEMENTS
 few_of table sessions zero sts few at = let same = ap (λ (l : List Statement). length l) (some_same (table ∷ []) sts at) in omega (arith, same)
-few_of table sessions (suc i) sts few at = all_at (λ s. length s ≤ 4096) sessions i sts few at
+few_of table sessions (suc i) sts few at = all_at (λ s. length s ≤ MAX_STATEMENTS) sessions i sts few at
 
 plain_of : (spec : TableSpec) (sessions : List (List Statement)) (i j : ℕ) (sts : List Statement) (st : Statement) → All (λ s. All IsPlain s) sessions → slice_get ((Table spec ∷ []) ∷ sessions) i ≡ Some sts → slice_get sts j ≡ Some st → IsPlain st
 plain_of spec sessions zero j sts st plain at there = only j (subst (λ (l : List Statement). slice_get l j ≡ Some st) (sym (some_same (Table spec ∷ []) sts at)) there)
@@ -197,8 +198,8 @@ lawful_by : EachRunIsLawful → (limit : ℕ) (script : Tag → Option Statement
     → ((t : Tag) → laws.reply_in (outcomes t) ≡ replies t) → IsLawful script replies moments
 lawful_by lawful limit script outcomes replies moments legal run same = subst (λ (rs : Tag → Option Reply). IsLawful script rs moments) (λ i t. same t i) (lawful limit script outcomes moments legal run)
 
-pub is_serial : EachRunIsLawful → RowsReadBack → (p : Program) (before after : Told) (replies : List (List Reply)) → p.limit ≤ 1000000 → length p.sessions ≤ 64
-    → All (λ s. length s ≤ 4096) p.sessions → All (λ s. All IsPlain s) p.sessions → Runs p before after replies → IsSerial p before after replies
+pub is_serial : EachRunIsLawful → RowsReadBack → (p : Program) (before after : Told) (replies : List (List Reply)) → p.limit ≤ MAX_ATTEMPTS → length p.sessions ≤ MAX_SESSIONS
+    → All (λ s. length s ≤ MAX_STATEMENTS) p.sessions → All (λ s. All IsPlain s) p.sessions → Runs p before after replies → IsSerial p before after replies
 unfolding Runs IsSerial
 is_serial lawful back p before after replies small few short plain runs is_before journal is_after moments legal are =
     let scripts = scripts_of p in

@@ -2,6 +2,7 @@
 #![tactic(auto)]
 
 ghost use Rattle.std.specs.Prelude.{◌≡◌, ◌≤◌, ◌<◌, ◌+◌, ◌++◌, [], ◌∷◌, length, All, map, IfOk, OnErr, vec_capacity};
+ghost use Rattle.row_base.specs.declared.limits.TheConstants.{MAX_ATTEMPTS, MAX_SESSIONS, MAX_STATEMENTS};
 ghost use Rattle.edge_api.specs.Actor.{Moves};
 ghost use Rattle.actor_core.specs.Schedule.{FollowsSchedule, TakesTurns};
 ghost use Rattle.actor_core.specs.Faults.{FaultsAreCounted};
@@ -24,7 +25,7 @@ fn begin_session(
     limit: u32,
 ) -> Result<Session, NoMemory>
     requires limit { IsLimit limit }
-    requires few { length statements.items ≤ 4096 }
+    requires few { length statements.items ≤ MAX_STATEMENTS }
     ensures { IfOk result (Begins actor limit statements.items) }
 {
     let session = Session::new(alloc, actor, statements, limit, None)?;
@@ -56,8 +57,8 @@ fn make_sessions(
     limit: u32,
 ) -> Result<Vec<Session>, NoMemory>
     requires limit { IsLimit limit }
-    requires sessions { length scripts.items ≤ 64 }
-    requires statements { All (λ s. length s.items ≤ 4096) scripts.items }
+    requires sessions { length scripts.items ≤ MAX_SESSIONS }
+    requires statements { All (λ s. length s.items ≤ MAX_STATEMENTS) scripts.items }
     ensures { IfOk result (λ sessions. AllBegin limit 1 (map (λ s. s.items) scripts.items) sessions.items) }
 {
     let mut sessions = Vec::with_capacity(alloc, scripts.len())?;
@@ -126,9 +127,9 @@ pub fn run_program<W: World>(
     world: &mut W,
 ) -> Result<Vec<SessionReplies>, NoMemory>
     requires some { 0 < limit }
-    requires few { limit ≤ 1000000 }
-    requires sessions { length sessions.items ≤ 64 }
-    requires statements { All (λ s. length s.items ≤ 4096) sessions.items }
+    requires few { limit ≤ MAX_ATTEMPTS }
+    requires sessions { length sessions.items ≤ MAX_SESSIONS }
+    requires statements { All (λ s. length s.items ≤ MAX_STATEMENTS) sessions.items }
     requires plain { All (λ s. All IsPlain s.items) sessions.items }
     requires items { All (λ i. (0 < i.actor) × (i.actor ≤ length sessions.items)) items.now }
     ensures runs { IfOk result (λ replies. Runs (record { table = table; sessions = map (λ s. s.items) sessions.items; limit = limit; items = items.now }) (W.journal world.old) (W.journal world.new) replies.items) }

@@ -1,5 +1,6 @@
 -- A session: statements one after another under one actor's number.
 use Rattle.std.specs.Prelude.{◌≡◌, ◌⊎◌, Bool, true, false, ◌<◌, ◌≤◌, ℕ, ◌+◌, ◌*◌, length, List, [], ◌∷◌, ◌++◌, Option, Some, None, vec_capacity, IfSome}
+use Rattle.row_base.specs.declared.limits.TheConstants.{MAX_ATTEMPTS}
 use Rattle.edge_api.specs.declared.call.Call.{Call}
 use Rattle.edge_api.specs.declared.call.Tag.{Tag}
 use Rattle.edge_api.specs.declared.actor.Stage.{Stage as Place}
@@ -144,7 +145,7 @@ count_of fed.NoMemory = 0
 
 -- the limit of attempts is from 1 to 1,000,000
 abbrev pub IsLimit : ℕ → Type 0
-IsLimit limit = (0 < limit) × (limit ≤ 1000000)
+IsLimit limit = (0 < limit) × (limit ≤ MAX_ATTEMPTS)
 
 -- the next call is made ready, with room for every reply
 pub record IsSettled (s : Session) : Type 0 where

@@ -1,5 +1,6 @@
 //! Statements one after another, as an actor.
 ghost use Rattle.std.specs.Prelude.{◌≡◌, ◌<◌, ◌≤◌, ◌+◌, ◌*◌, ◌++◌, ◌∷◌, ℕ, length, List, [], Option, Some, None, Bool, true, if◌then◌else◌, IfOk, IfSome, IsSome, IsTrue, IsFalse, vec_capacity};
+ghost use Rattle.row_base.specs.declared.limits.TheConstants.{MAX_STATEMENTS};
 ghost use Rattle.call_phases.specs.Phases.{Entries};
 ghost use Rattle.op_types.specs.declared.reply.Reply.{Reply as AReply};
 ghost use Rattle.statement_calls.specs.Bounds.{most_calls};
@@ -117,7 +118,7 @@ impl Session {
         kill: Option<u64>,
     ) -> Result<Session, NoMemory>
         requires limit { IsLimit limit }
-        requires few { length statements.items ≤ 4096 }
+        requires few { length statements.items ≤ MAX_STATEMENTS }
         ensures ready { IfOk result IsReady }
         ensures actor { IfOk result (λ s. s.actor ≡ actor) }
         ensures fresh { IfOk result (λ s. IsBetween actor (progress_of s)) }
@@ -137,7 +138,7 @@ impl Session {
         kill: Option<u64>,
     ) -> Result<Session, NoMemory>
         requires limit { IsLimit limit }
-        requires few { length statements.items ≤ 4096 }
+        requires few { length statements.items ≤ MAX_STATEMENTS }
         ensures idle { IfOk result IsIdle }
         ensures actor { IfOk result (λ s. s.actor ≡ actor) }
         ensures kill { IfOk result (λ s. s.kill ≡ kill) }

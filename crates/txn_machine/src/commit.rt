@@ -15,9 +15,7 @@ use committer::{AttemptFault, Attempts, Landed, Lost, Won};
 use edge_api::Body;
 use op_types::{CheckpointOutcome, Clash, Refusal, Reply};
 use statement_calls::{Finish, Kept};
-
-/// The retention of a table, in milliseconds: one week. A commit may take half of it.
-const RETENTION: u64 = 604_800_000;
+use table_rules::DEFAULT_RETENTION;
 
 /// The commit is attempted, and then the reply is there. A table is made without a version that was read.
 #[derive(Drop)]
@@ -106,7 +104,14 @@ impl CommitStep {
             text,
             makes_table: read.is_none(),
         };
-        let attempts = Attempts::new(plan.alloc, judge, start, RETENTION, read, plan.limit);
+        let attempts = Attempts::new(
+            plan.alloc,
+            judge,
+            start,
+            DEFAULT_RETENTION,
+            read,
+            plan.limit,
+        );
         go(CommitStep { read, kept }, attempts)
     }
 }

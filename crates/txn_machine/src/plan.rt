@@ -1,5 +1,6 @@
 //! What a statement is told, and what it knows of numbers.
 ghost use Rattle.std.specs.Prelude.{◌≡◌, ◌<◌, ◌≤◌, nat_lt, false, IfSome, None};
+ghost use Rattle.row_base.specs.declared.limits.TheConstants.{MAX_ATTEMPTS};
 ghost use Rattle.statement_calls.specs.Bounds.{version_limit};
 
 use edge_api::Tag;
@@ -13,7 +14,7 @@ pub struct Plan {
     pub tag: Tag,
     pub limit: u32,
     pub ghost some: { 0 < limit },
-    pub ghost few: { limit ≤ 1000000 },
+    pub ghost few: { limit ≤ MAX_ATTEMPTS },
 }
 
 /// A version that is supported.

@@ -1,5 +1,6 @@
 //! A statement as an actor.
 ghost use Rattle.std.specs.Prelude.{◌≡◌, ◌<◌, ◌≤◌, Option, None, Some, [], IfSome, option_copied};
+ghost use Rattle.row_base.specs.declared.limits.TheConstants.{MAX_ATTEMPTS};
 ghost use Rattle.edge_api.specs.declared.actor.Stage.TheVariants as place;
 ghost use Rattle.call_phases.specs.Phases.{Entries};
 ghost use Rattle.statement_calls.specs.declared.finish.Finish.{Finish as AFinish};
@@ -30,7 +31,7 @@ impl Txn {
     /// it is refused at once. The limit is that of its attempts.
     pub fn new(alloc: Global, tag: Tag, statement: Statement, limit: u32, kept: Option<Kept>) -> Txn
         requires some { 0 < limit }
-        requires few { limit ≤ 1000000 }
+        requires few { limit ≤ MAX_ATTEMPTS }
         ensures ready { IsReady result }
         ensures tag { result.tag ≡ tag }
         ensures begins { (es : Entries) (out : Option AFinish) → Rest result.stage es out → Answered tag limit kept statement es out }

@@ -1,4 +1,5 @@
 use Rattle.std.proofs.Common.{rules, ◌≡◌, ◌≤◌, [], length, ap, arith}
+use Rattle.row_base.specs.declared.limits.TheConstants.{MAX_STATEMENTS}
 use Rattle.std.proofs.lemmas.Grind.{common_steps}
 use Rattle.std.specs.Prelude.{map}
 use Rattle.session_runs.proofs.Replies.{one_begun, all_begun, all_next}
@@ -11,7 +12,7 @@ loop-statements-preserved c =
     let rest = c.next.new.self.rest.items in
     record {
       few = search rules;
-      short = all_next old rest (λ s. length s.items ≤ 4096) (search rules) l.invariant.short;
+      short = all_next old rest (λ s. length s.items ≤ MAX_STATEMENTS) (search rules) l.invariant.short;
       made = one_begun c.args.limit l.actor (map (λ s. s.items) old) (map (λ s. s.items) rest) (map (λ s. s.items) c.args.scripts.items) l.sessions.items c.push.new.self.items _ _ c.in_ok-session.ensures (search rules) l.invariant.made c.in_ok-push.ensures.items;
     }
 

@@ -1,4 +1,5 @@
 use Rattle.std.proofs.Common.{rules, ap, List, ℕ, ◌∙◌, ◌≡◌, ◌≤◌, ◌<◌, [], ◌∷◌, length, sym, subst}
+use Rattle.row_base.specs.declared.limits.TheConstants.{MAX_SESSIONS, MAX_STATEMENTS}
 use Rattle.std.specs.Prelude.{map, All}
 use Rattle.op_types.specs.declared.statement.Statement.TheVariants.{Table}
 use Rattle.op_types.specs.declared.reply.Reply.{Reply}
@@ -61,6 +62,6 @@ pub returns-clause-serial : goal.returns-clause-serial
 returns-clause-serial g c =
     let j = g.W.World.journal in
     let lists = map (λ s. s.items) c.args.sessions.items in
-    let few : length lists ≤ 64 = subst (λ (n : ℕ). n ≤ 64) (sym (length-map (λ s. s.items) c.args.sessions.items)) c.requires.sessions in
+    let few : length lists ≤ MAX_SESSIONS = subst (λ (n : ℕ). n ≤ MAX_SESSIONS) (sym (length-map (λ s. s.items) c.args.sessions.items)) c.requires.sessions in
     is_serial each_run_is_lawful rows_read_back (record { table = c.args.table; sessions = lists; limit = c.args.limit; items = c.args.items.now }) (j c.args.world.now) (j c.run_all.new.world)
-    c.give_replies.new.replies.items c.requires.few few (all_map (λ s. s.items) (λ s. length s ≤ 4096) c.args.sessions.items c.requires.statements) (all_map (λ s. s.items) (λ s. All IsPlain s) c.args.sessions.items c.requires.plain) (returns-clause-runs g c)
+    c.give_replies.new.replies.items c.requires.few few (all_map (λ s. s.items) (λ s. length s ≤ MAX_STATEMENTS) c.args.sessions.items c.requires.statements) (all_map (λ s. s.items) (λ s. All IsPlain s) c.args.sessions.items c.requires.plain) (returns-clause-runs g c)
