@@ -3,6 +3,7 @@ ghost use Rattle.std.specs.Prelude.{◌≡◌, ◌<◌, ◌≤◌, ◌^◌, IsTr
 ghost use Rattle.edge_api.specs.Actor.{IsFit};
 ghost use Rattle.committer.specs.Machine.{IsReady};
 
+use call_phases::Phase;
 use committer::{AttemptFault, Attempts, BodyFault, Judge, Landed, Verdict};
 use edge_api::{Answer, Body, Call, Fed, Name};
 use row_base::NoMemory;
@@ -211,9 +212,9 @@ fn run(alloc: Global, row: Row) -> Result<String, NoMemory> {
     }
     let ended = match attempts.next() {
         Some(_) => String::from_str(alloc, "open")?,
-        None => match attempts.finish().result {
-            Ok(landed) => landed_text(alloc, landed)?,
-            Err(fault) => fault_text(alloc, fault)?,
+        None => match attempts.finish() {
+            Ok(won) => landed_text(alloc, won.landed)?,
+            Err(lost) => fault_text(alloc, lost.fault)?,
         },
     };
     text.push_str(ended.as_str())?;
