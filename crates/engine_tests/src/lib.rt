@@ -7,9 +7,3 @@ mod actors;
 mod attempts;
 #[cfg(test)]
 mod session_replies;
-#[cfg(test)]
-mod statements;
-#[cfg(test)]
-mod states;
-#[cfg(test)]
-mod texts;
