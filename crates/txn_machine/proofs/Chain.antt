@@ -1,5 +1,5 @@
 -- The arrows of a statement: a phase, and what follows it, told of what readers and judges stand for.
-use Rattle.std.proofs.Common.{◌≡◌, ◌⊎◌, inl, inr, ℕ, zero, suc, ◌+◌, ◌<◌, List, [], ◌∷◌, length, Bool, true, false, refl, sym, ap, subst, arith}
+use Rattle.std.proofs.Common.{◌≡◌, ◌⊎◌, inl, inr, ℕ, zero, suc, ◌<◌, List, [], ◌∷◌, length, Bool, true, false, refl, sym, subst, arith}
 use Rattle.std.specs.Prelude.{nat_lt, Option, Some, None, MatchOption, MatchBool, IfSome, Result, Ok, Err}
 use Rattle.edge_api.specs.declared.call.Tag.{Tag}
 use Rattle.edge_api.specs.declared.actor.Fed.{Fed}
@@ -8,12 +8,10 @@ use Rattle.row_base.specs.declared.row.Datum.{Datum}
 use Rattle.op_types.specs.declared.refusal.ObjectFault.{ObjectFault}
 use Rattle.op_types.specs.declared.refusal.Refusal.{Refusal}
 use Rattle.op_types.specs.declared.refusal.Refusal.TheVariants as refusal
-use Rattle.op_types.specs.fault.Feature.TheVariants.{Versions}
 use Rattle.op_types.specs.declared.reply.Reply.{Reply}
-use Rattle.op_types.specs.declared.reply.Reply.TheVariants.{Refused}
 use Rattle.table_rules.specs.Names.{data_text}
 use Rattle.line_texts.specs.Texts.{text_of_add, text_of_rows}
-use Rattle.snapshot_replay.specs.Table.{Snapshot, Add, paths_of}
+use Rattle.snapshot_replay.specs.Table.{Snapshot, paths_of}
 use Rattle.call_phases.specs.Phases.{Entries}
 use Rattle.call_phases.specs.Endings.{Then}
 use Rattle.call_phases.specs.Machine.{Goes}
@@ -37,8 +35,8 @@ use Rattle.statement_calls.specs.declared.statement.TableStatement.{TableStateme
 use Rattle.statement_calls.specs.Bounds.{version_limit}
 use Rattle.statement_calls.specs.Judging.{CommitPlan, Bodies, Judges}
 use Rattle.statement_calls.specs.Objects as law
-use Rattle.statement_calls.specs.Outcome.{refused, refusal_of_load, refusal_of_scan, refusal_of_put, refusal_of_attempt, IsOpen, Ends, Replies}
-use Rattle.statement_calls.specs.Answered.{retention, committed, Base, base_of, AtCommit, AfterPuts, Appends, AfterScan, Selects, AfterLoad, AtLoad, LoadsFrom, Loads}
+use Rattle.statement_calls.specs.Outcome.{refusal_of_load, refusal_of_scan, refusal_of_put, refusal_of_attempt, IsOpen, Ends, Replies}
+use Rattle.statement_calls.specs.Answered.{retention, Base, base_of, AtCommit, AfterPuts, Appends, AfterScan, Selects, AfterLoad, AtLoad, LoadsFrom, Loads}
 use Rattle.txn_machine.specs.declared.commits.Commits.{Commits}
 use Rattle.txn_machine.specs.declared.files.Files.{Files}
 use Rattle.txn_machine.specs.declared.judge.CommitJudge.{CommitJudge}
@@ -50,10 +48,6 @@ use Rattle.txn_machine.specs.Machine.{ByLoad, ByScan, ByPut, ByAttempt, landed_a
 pub match_true : (b : Bool) (P Q : Type 0) → b ≡ true → P → MatchBool b P Q
 match_true true P Q is h = h
 match_true false P Q is h = cc
-
-pub match_false : (b : Bool) (P Q : Type 0) → b ≡ false → Q → MatchBool b P Q
-match_false true P Q is h = cc
-match_false false P Q is h = h
 
 pub match_none : {A : Type 0} (o : Option A) (P : Type 0) (Q : A → Type 0) → o ≡ None → P → MatchOption o P Q
 match_none None P Q is h = h
@@ -77,10 +71,6 @@ files_told : (f : Files) (r : Result law.Files ObjectFault) → result_by files_
 files_told f (Ok k) = refl
 files_told f (Err x) = refl
 
-pub length-paths_of : (fs : List Add) → length (paths_of fs) ≡ length fs
-length-paths_of [] = refl
-length-paths_of (f ∷ fs) = ap (λ (n : ℕ). suc n) (length-paths_of fs)
-
 module _ (tag : Tag) (limit : ℕ) (out : Option Finish) where
   -- the commit is attempted, and the reply follows
   pub then_commit : (kept : Option Kept) (start first : ℕ) (j : CommitJudge) (landed : Landed → Reply) (es : Entries)
@@ -89,7 +79,7 @@ module _ (tag : Tag) (limit : ℕ) (out : Option Finish) where
   then_commit kept start first j landed es h =
       then_attempts_view plan_of Makes Says Bodies Judges (λ j now made new b. b) (λ j winner v new b. b) (record { start = start; retention = retention; first = first }) (out ≡ None) (ByAttempt kept out)
       (λ p. IsOpen out kept) (λ p f rest. Ends out kept (refusal_of_attempt f) rest) (λ p l rest. Replies out kept (landed l) rest) es (λ k e. inl e) (λ l e. (refl, e)) (λ j e. inr e)
-      (λ (w : Won CommitJudge) rest. Replies out kept (landed w.landed) rest) (λ w rest e. e) limit 0 [] j h
+      (λ (w : Won CommitJudge) rest. Replies out kept (landed w.landed) rest) (λ j l rest e. e) limit 0 [] j h
 
   -- memory was wanting before the first attempt
   pub no_commit : (kept : Option Kept) (start first : ℕ) (p : CommitPlan) (landed : Landed → Reply) (es : Entries) → 0 < limit → Ends out kept refusal.NoMemory es → AtCommit tag limit out kept start first p landed es
@@ -147,11 +137,6 @@ module _ (tag : Tag) (limit : ℕ) (out : Option Finish) where
       → LoadsFrom tag limit out statement start l kept read (base_of kept read) es → Loads tag limit out statement start l kept (Some v) es
   loads_on statement start l kept v read es small same h =
       match_true (nat_lt v version_limit) _ _ small (subst (λ (n : ℕ). LoadsFrom tag limit out statement start l kept n (base_of kept n) es) same h)
-
-  -- it isn't
-  pub loads_off : (statement : TableStatement) (start : ℕ) (l : List Listed) (kept : Option Kept) (v : ℕ) (es : Entries) → nat_lt v version_limit ≡ false
-      → Ends out kept (refusal.Unsupported Versions) es → Loads tag limit out statement start l kept (Some v) es
-  loads_off statement start l kept v es large h = match_false (nat_lt v version_limit) _ _ large h
 
   -- a commit that is needed isn't listed, unless memory was wanting
   pub no_log : (kept : Option Kept) (r s : Refusal) (es : Entries) → (r ≡ s) ⊎ (r ≡ refusal.NoMemory) → Ends out kept r es → Ends out kept refusal.NoMemory es ⊎ Ends out kept s es

@@ -4,7 +4,6 @@ use Rattle.std.specs.Prelude.{Option, Some, None, IfSome}
 use Rattle.edge_api.specs.declared.call.Call.{Call}
 use Rattle.edge_api.specs.declared.call.Call.TheVariants.{Get, PutNew, Put, List as ListNames, Delete, Now, Wait}
 use Rattle.edge_api.specs.declared.call.Tag.{Tag}
-use Rattle.edge_api.specs.declared.actor.Stage.TheVariants as place
 use Rattle.edge_api.specs.declared.actor.Fed.{Fed}
 use Rattle.edge_api.specs.declared.actor.Fed.TheVariants as fed
 use Rattle.edge_api.specs.Actor.{event_of}
@@ -12,7 +11,7 @@ use Rattle.table_rules.specs.Names.{log_name}
 use Rattle.table_rules.specs.declared.log.LogName.{LogName}
 use Rattle.table_rules.specs.declared.log.LogName.TheVariants as log
 use Rattle.call_phases.specs.Clock as clock
-use Rattle.call_phases.specs.Machine.{Goes, LeftBy}
+use Rattle.call_phases.specs.Machine.{Goes}
 use Rattle.call_phases.specs.declared.clock.ClockStage.{ClockStage}
 use Rattle.call_phases.specs.declared.clock.ClockStage.TheVariants as of_clock
 use Rattle.statement_calls.specs.Bounds.{most_calls}
@@ -107,52 +106,6 @@ not_first (stage.Done f) c is less = refl
 -- .. and is within, while it makes calls
 pub stays : (s : Stage) (c : Call) → call_of s ≡ Some c → left_of s < most_calls → IsWithin (place_of s)
 stays s c is less = at_within (is_first s) (call_of s) c is (not_first s c is less)
-
-at_done : (first : Bool) (o : Option Call) → o ≡ None → place_at first o ≡ place.Done
-at_done true None is = refl
-at_done false None is = refl
-at_done first (Some call) is = cc
-
--- it is done exactly where nothing is called any more
-pub is_done : (s : Stage) → call_of s ≡ None → place_of s ≡ place.Done
-is_done s is = at_done (is_first s) (call_of s) is
-
-name_not : (n : LogName) → place_of_name n ≡ place.Done → ⊥
-name_not (log.Commit version) done = cc
-name_not (log.CheckpointJson version) done = cc
-name_not (log.CheckpointOther version) done = cc
-name_not log.Hint done = cc
-name_not log.OtherLog done = cc
-name_not log.Outside done = cc
-
-pub call_not : (c : Call) → place_of_call c ≡ place.Done → ⊥
-call_not (PutNew name body) done = name_not (log_name name) done
-call_not (Get name) done = cc
-call_not (Put name body) done = cc
-call_not (ListNames prefix) done = cc
-call_not (Delete name) done = cc
-call_not Now done = cc
-call_not (Wait time) done = cc
-
-at_none : (first : Bool) (o : Option Call) → place_at first o ≡ place.Done → o ≡ None
-at_none first None done = refl
-at_none true (Some call) done = cc
-at_none false (Some call) done = absurd (call_not call done)
-
-none_left : (n : ℕ) (o : Option Call) → LeftBy n o → o ≡ None → n ≡ 0
-none_left n None left is = left
-none_left n (Some call) left is = cc
-
-left_none : (n : ℕ) (o : Option Call) → LeftBy n o → n ≡ 0 → o ≡ None
-left_none n None left is = refl
-left_none n (Some call) left is = absurd (omega (arith, left, is))
-
--- nothing is left exactly at the end
-pub done_left : (s : Stage) → LeftBy (left_of s) (call_of s) → place_of s ≡ place.Done → left_of s ≡ 0
-done_left s left done = none_left (left_of s) (call_of s) left (at_none (is_first s) (call_of s) done)
-
-pub left_done : (s : Stage) → LeftBy (left_of s) (call_of s) → left_of s ≡ 0 → place_of s ≡ place.Done
-left_done s left is = is_done s (left_none (left_of s) (call_of s) left is)
 
 -- what the statement was fed leads on
 pub fed_leads : (old self : Txn) (tag : Tag) (call : Call) (input : Fed) (new : Txn) → txn.Asks old tag call self → new.tag ≡ self.tag

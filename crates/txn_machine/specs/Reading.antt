@@ -1,5 +1,5 @@
 -- What is made of the bytes of an object.
-use Rattle.std.specs.Prelude.{◌≡◌, List, Option, Some, None, MatchOption}
+use Rattle.std.specs.Prelude.{◌≡◌, Option, None, MatchOption}
 use Rattle.op_types.specs.declared.refusal.ObjectFault.{ObjectFault}
 use Rattle.op_types.specs.declared.refusal.ObjectFault.TheVariants.{Line}
 use Rattle.op_types.specs.fault.LogFaultKind.TheVariants.{Shape}

@@ -12,8 +12,8 @@ ghost use Rattle.txn_machine.specs.Place.{place_of};
 
 use crate::resume::Resumes;
 use crate::{
-    ClockStep, CommitJudge, CommitStep, Commits, DataStep, Files, ListLog, ListStep, LoadStep, Plan,
-    ScanStep,
+    ClockStep, CommitJudge, CommitStep, Commits, DataStep, Files, ListLog, ListStep, LoadStep,
+    Plan, ScanStep,
 };
 use call_phases::{Gets, Phase, Puts, ReadClock, Ready, Stages, feed};
 use committer::Attempts;

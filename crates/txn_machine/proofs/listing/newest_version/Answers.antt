@@ -1,6 +1,6 @@
-use Rattle.std.proofs.Common.{rules, ◌≡◌, ◌+◌, drop}
+use Rattle.std.proofs.Common.{rules, ◌+◌, drop}
 use Rattle.std.proofs.lemmas.List.{at_drop_more}
-use Rattle.statement_calls.specs.Listing.{newest, commit_version, later}
+use Rattle.statement_calls.specs.Listing.{newest}
 use Rattle.txn_machine.proofs.Listings.{later_assoc}
 use Rattle.txn_machine.proofs.listing.newest_version.Goals as goal
 

@@ -1,4 +1,4 @@
-use Rattle.std.proofs.Common.{rules, ◌≡◌}
+use Rattle.std.proofs.Common.{rules}
 use Rattle.txn_machine.proofs.Chain.{then_append}
 use Rattle.txn_machine.proofs.insert.DataStep.begin.Goals as goal
 

@@ -1,4 +1,3 @@
-use Rattle.std.proofs.Common.{rules}
 use Rattle.statement_calls.specs.Answered.{base_of}
 use Rattle.txn_machine.proofs.Chain.{then_load}
 use Rattle.txn_machine.proofs.machine.LoadStep.begin.Goals as goal

@@ -1,8 +1,8 @@
-use Rattle.std.proofs.Common.{rules, ◌≡◌, true, false, sym, subst, ℕ}
+use Rattle.std.proofs.Common.{rules, ◌≡◌, true, sym, subst, ℕ}
 use Rattle.std.specs.Prelude.{nat_lt, Option}
 use Rattle.statement_calls.specs.Bounds.{version_limit}
 use Rattle.statement_calls.specs.Answered.{Loads}
-use Rattle.txn_machine.proofs.Chain.{loads_on, loads_off}
+use Rattle.txn_machine.proofs.Chain.{loads_on}
 use Rattle.txn_machine.proofs.machine.LoadStep.loads.Goals as goal
 
 pub returns-clause-may : goal.returns-clause-may

@@ -4,7 +4,7 @@ use Rattle.op_types.specs.declared.refusal.Refusal.TheVariants as refusal
 use Rattle.table_rules.specs.Names.{commit_text}
 use Rattle.statement_calls.specs.Outcome.{Ends}
 use Rattle.txn_machine.specs.Readers.{missing_for}
-use Rattle.txn_machine.proofs.Chain.{match_none, match_some, map_gone, no_log}
+use Rattle.txn_machine.proofs.Chain.{match_none, map_gone, no_log}
 use Rattle.txn_machine.proofs.machine.LoadStep.loads_from.Goals as goal
 
 pub returns-in-Ok-None-clause-may : goal.returns-in-Ok-None-clause-may

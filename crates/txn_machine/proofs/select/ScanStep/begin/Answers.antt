@@ -1,11 +1,11 @@
-use Rattle.std.proofs.Common.{rules, ◌≡◌, [], length}
+use Rattle.std.proofs.Common.{rules, subst}
 use Rattle.std.specs.Prelude.{Some}
 use Rattle.op_types.specs.declared.refusal.Refusal.TheVariants as refusal
-use Rattle.snapshot_replay.specs.Table.{paths_of}
-use Rattle.statement_calls.specs.Objects as law
+use Rattle.statement_calls.specs.declared.finish.Kept.{Kept}
+use Rattle.statement_calls.specs.Answered.{Selects}
 use Rattle.statement_calls.specs.Outcome.{Ends}
 use Rattle.txn_machine.specs.declared.files.Files.{Files}
-use Rattle.txn_machine.specs.Readers.{files_of, kept_of}
+use Rattle.txn_machine.specs.Readers.{kept_of}
 use Rattle.txn_machine.proofs.Chain.{then_scan, no_scan}
 use Rattle.txn_machine.proofs.select.ScanStep.begin.Goals as goal
 
@@ -13,8 +13,9 @@ pub returns-in-Ok-clause-may : goal.returns-in-Ok-clause-may
 returns-in-Ok-clause-may c es out h =
     let a = c.args in
     let s = c.go.ensures.may es out h in
-    let files : Files = record { alloc = a.plan.alloc; paths = c.new-in-Ok.result; got = c.new-in-Ok-2.result } in
-    then_scan a.plan.tag a.plan.limit out (Some (kept_of a.spare a.read.version a.table)) a.read.version c.file_count-live.result a.table files es (search rules) (search rules) (s.0, c.new.ensures.begins es s.0 s.1, s.2)
+    let files : Files = record { alloc = a.plan.alloc; paths = c.new.result; got = c.new-in-Ok.result } in
+    subst (λ (k : Kept). Selects a.plan.tag a.plan.limit out a.table (Some k) a.read.version es) c.kept_of.ensures
+    (then_scan a.plan.tag a.plan.limit out (Some c.kept_of.result) a.read.version c.file_count-live.result a.table files es (search rules) (search rules) (s.0, c.new-in-Ok-2.ensures.begins es s.0 s.1, s.2))
 
 pub returns-in-Err-clause-may : goal.returns-in-Err-clause-may
 returns-in-Err-clause-may c es out h =

@@ -1,4 +1,4 @@
-use Rattle.std.proofs.Common.{◌≡◌, ◌<◌, refl, subst}
+use Rattle.std.proofs.Common.{◌<◌, refl, subst}
 use Rattle.txn_machine.specs.declared.stage.Stage.{Stage}
 use Rattle.txn_machine.specs.declared.txn.Txn.{Txn}
 use Rattle.txn_machine.specs.Machine.{left_of}
