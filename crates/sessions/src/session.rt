@@ -189,7 +189,13 @@ impl Session {
     pub fn into_replies(self) -> Vec<Reply>
         ensures { result.items ≡ self.replies.items }
     {
-        self.replies
+        let Session {
+            current,
+            replies,
+            ..
+        } = self;
+        drop(current);
+        replies
     }
 
     /// Whether a statement is under way whose calls may not be answered any more.
@@ -211,7 +217,7 @@ impl Session {
         ensures later { self.new.later.items ≡ [] }
         ensures replies { self.new.replies.items ≡ self.old.replies.items ++ Reply.Killed ∷ [] }
     {
-        self.current = None;
+        drop(self.current.take());
         self.replies.push(Reply::Killed).unwrap();
         self.later.clear();
     }
@@ -302,7 +308,7 @@ impl Session {
                 None => return,
             }
         }
-        self.current = Some(txn);
+        drop(self.current.replace(txn));
     }
 }
 
