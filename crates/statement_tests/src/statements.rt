@@ -1,5 +1,5 @@
 //! Statements driven call by call over a store in memory, with the calls and the replies worked out by hand.
-ghost use Rattle.std.specs.Prelude.{◌≡◌, IfOk};
+ghost use Rattle.std.specs.Prelude.{◌≡◌};
 ghost use Rattle.edge_api.specs.Actor.{IsFit};
 ghost use Rattle.txn_machine.specs.Txn.{IsReady};
 
@@ -7,34 +7,39 @@ use edge_api::{Actor, Body, Call, Fed, MemWorld, Name, Stage as Place, Step, Tag
 use op_types::{Refusal, Reply, Statement, TableSpec};
 use row_base::{Column, Datum, Items, Kind, NoMemory, Rows, Text};
 use statement_calls::{Finish, Kept};
-use std::alloc::{AllocError, Global};
+use std::alloc::Global;
 use std::test::Fail;
 use table_rules::{LogName, read_log_name};
 use txn_machine::{DataFile, Txn, replay};
 
+/// Adds a word to the text. Where memory is wanting it is left out, and the text isn't the one that is wanted.
+fn say(text: &mut String, word: &str) {
+    text.push_str(word).ok();
+}
+
 /// Notes a name: a commit by its version.
-fn note_name(text: &mut String, word: &str, name: &Name) -> Result<(), AllocError> {
+fn note_name(text: &mut String, word: &str, name: &Name) {
     match read_log_name(name) {
-        LogName::Commit(version) => write!(text, "{word} {version}; "),
-        LogName::Outside => write!(text, "{word} data; "),
-        _ => text.push_str("another; "),
-    }
+        LogName::Commit(version) => write!(text, "{word} {version}; ").ok(),
+        LogName::Outside => write!(text, "{word} data; ").ok(),
+        _ => text.push_str("another; ").ok(),
+    };
 }
 
 /// Notes a call, with a mark where the statement stands before a commit put, or between two statements.
-fn note(text: &mut String, place: Place, call: &Call) -> Result<(), AllocError> {
+fn note(text: &mut String, place: Place, call: &Call) {
     match place {
-        Place::Between => text.push_str("|")?,
-        Place::Attempt => text.push_str("!")?,
+        Place::Between => say(text, "|"),
+        Place::Attempt => say(text, "!"),
         Place::Running => {}
-        Place::Done => text.push_str("done")?,
+        Place::Done => say(text, "done"),
     }
     match call {
-        Call::Now => text.push_str("now; "),
-        Call::List(_) => text.push_str("list; "),
+        Call::Now => say(text, "now; "),
+        Call::List(_) => say(text, "list; "),
         Call::Get(name) => note_name(text, "get", name),
         Call::PutNew(name, _) => note_name(text, "put", name),
-        _ => text.push_str("another; "),
+        _ => say(text, "another; "),
     }
 }
 
@@ -49,78 +54,84 @@ fn made(world: &mut MemWorld, tag: Tag, call: Call) -> Fed
 }
 
 /// Makes the next call, if there is one.
-fn turn(world: &mut MemWorld, txn: &mut Txn, text: &mut String) -> Result<(), AllocError>
+fn turn(world: &mut MemWorld, txn: &mut Txn, text: &mut String)
     requires { IsReady txn.old }
-    ensures { IfOk result (λ _. IsReady txn.new) }
+    ensures { IsReady txn.new }
 {
     let place = txn.stage();
     let Step::Call(tag, call) = txn.next() else {
-        return Ok(());
+        return;
     };
-    note(text, place, &call)?;
+    note(text, place, &call);
     let input = made(world, tag, call);
     txn.feed(input);
-    Ok(())
 }
 
 /// Notes rows of numbers.
-fn note_rows(text: &mut String, rows: &Rows) -> Result<(), AllocError> {
+fn note_rows(text: &mut String, rows: &Rows) {
     for row in rows.iter() {
         for datum in row {
             match datum {
-                Datum::Long(n) => write!(text, " {n}")?,
-                _ => text.push_str(" another")?,
-            }
+                Datum::Long(n) => write!(text, " {n}").ok(),
+                _ => text.push_str(" another").ok(),
+            };
         }
     }
-    Ok(())
 }
 
-fn note_reply(text: &mut String, reply: &Reply) -> Result<(), AllocError> {
+fn note_reply(text: &mut String, reply: &Reply) {
     match reply {
-        Reply::Created => text.push_str("created"),
+        Reply::Created => say(text, "created"),
         Reply::Committed {
             version,
             read,
             attempts,
             ..
-        } => write!(text, "committed {version} from {read} by {attempts}"),
+        } => {
+            write!(text, "committed {version} from {read} by {attempts}").ok();
+        }
         Reply::Rows {
             version,
             rows,
             files_read,
             files_live,
         } => {
-            write!(text, "rows of {version} in {files_read} of {files_live}:")?;
-            note_rows(text, rows)
+            write!(text, "rows of {version} in {files_read} of {files_live}:").ok();
+            note_rows(text, rows);
         }
-        Reply::Refused(Refusal::NoTable) => text.push_str("no table"),
-        _ => text.push_str("another"),
+        Reply::Refused(Refusal::NoTable) => say(text, "no table"),
+        _ => say(text, "another"),
     }
 }
 
 /// Makes the calls of a statement, of which there are twelve at most.
-fn turns(world: &mut MemWorld, txn: &mut Txn, text: &mut String) -> Result<(), AllocError>
+fn turns(world: &mut MemWorld, txn: &mut Txn, text: &mut String)
     requires { IsReady txn.old }
-    ensures { IfOk result (λ _. IsReady txn.new) }
+    ensures { IsReady txn.new }
 {
     'turns: for _ in 0..12 {
-        turn(world, txn, text)?;
+        turn(world, txn, text);
     }
-    Ok(())
 }
 
 /// Notes the reply of a statement, or that it is open. What it keeps.
-fn note_end(text: &mut String, txn: Txn) -> Result<Option<Kept>, AllocError>
+fn note_end(text: &mut String, txn: Txn) -> Option<Kept>
     requires { IsReady txn }
 {
     if txn.pending.is_some() {
-        text.push_str("open")?;
-        return Ok(None);
+        drop(txn);
+        say(text, "open");
+        return None;
     }
     let Finish { reply, kept } = txn.finish();
-    note_reply(text, &reply)?;
-    Ok(kept)
+    note_reply(text, &reply);
+    drop(reply);
+    kept
+}
+
+/// Puts a value into a place.
+fn set<T: Drop>(place: &mut T, value: T) {
+    *place = value;
 }
 
 /// The statement of a number, which is to make its first call.
@@ -141,12 +152,12 @@ fn run(
     number: u32,
     what: Statement,
     kept: &mut Option<Kept>,
-) -> Result<String, AllocError> {
+) -> String {
     let mut text = String::new(alloc);
     let mut txn = begun(alloc, number, what, kept.take());
-    turns(world, &mut txn, &mut text)?;
-    *kept = note_end(&mut text, txn)?;
-    Ok(text)
+    turns(world, &mut txn, &mut text);
+    set(kept, note_end(&mut text, txn));
+    text
 }
 
 /// Makes a table of one column of numbers.
@@ -189,7 +200,7 @@ fn replayed(alloc: Global, world: &MemWorld, version: usize) -> Result<String, N
     }
     let mut text = String::new(alloc);
     let rows = replay(alloc, commits.as_slice(), files.as_slice(), version)?;
-    note_rows(&mut text, &rows)?;
+    note_rows(&mut text, &rows);
     Ok(text)
 }
 
@@ -217,9 +228,11 @@ fn is_answered(
     what: What,
     kept: &mut Option<Kept>,
     want: &str,
-) -> Result<bool, NoMemory> {
-    let told = run(alloc, world, number, statement(alloc, what)?, kept)?;
-    Ok(told.as_str() == want)
+) -> bool {
+    match statement(alloc, what) {
+        Ok(statement) => run(alloc, world, number, statement, kept).as_str() == want,
+        Err(_) => false,
+    }
 }
 
 /// Whether the rows of a version are these by what was put.
@@ -252,14 +265,14 @@ const STATEMENTS: [(What, &str); 5] = [
 ];
 
 /// Makes the statements, each with nothing kept. Whether each has its calls and its reply.
-fn are_answered(alloc: Global, world: &mut MemWorld) -> Result<bool, NoMemory> {
+fn are_answered(alloc: Global, world: &mut MemWorld) -> bool {
     let mut all = true;
     let mut number: u32 = 1;
     for (what, want) in STATEMENTS {
-        all = is_answered(alloc, world, number, what, &mut None, want)? && all;
+        all = is_answered(alloc, world, number, what, &mut None, want) && all;
         number = number.saturating_add(1);
     }
-    Ok(all)
+    all
 }
 
 /// Statements that each begin with what the one before has kept: the table that it loaded, so that its own commit is
@@ -280,23 +293,24 @@ const FROM_KEPT: [(What, &str); 3] = [
 ];
 
 /// Makes these statements, where each begins with what the one before has kept.
-fn are_answered_from_kept(alloc: Global, world: &mut MemWorld) -> Result<bool, NoMemory> {
+fn are_answered_from_kept(alloc: Global, world: &mut MemWorld) -> bool {
     let mut all = true;
     let mut number: u32 = 6;
     let mut kept = None;
     for (what, want) in FROM_KEPT {
-        all = is_answered(alloc, world, number, what, &mut kept, want)? && all;
+        all = is_answered(alloc, world, number, what, &mut kept, want) && all;
         number = number.saturating_add(1);
     }
-    Ok(all)
+    drop(kept);
+    all
 }
 
 #[test]
 fn a_kept_table_saves_its_gets(rt: HostRuntime) -> Result<(), Fail> {
     let alloc = rt.alloc();
     let mut world = MemWorld::new(alloc, 1000);
-    assert!(rt; are_answered(alloc, &mut world)?);
-    assert!(rt; are_answered_from_kept(alloc, &mut world)?);
+    assert!(rt; are_answered(alloc, &mut world));
+    assert!(rt; are_answered_from_kept(alloc, &mut world));
     Ok(())
 }
 
@@ -304,7 +318,7 @@ fn a_kept_table_saves_its_gets(rt: HostRuntime) -> Result<(), Fail> {
 fn rows_are_inserted_and_selected(rt: HostRuntime) -> Result<(), Fail> {
     let alloc = rt.alloc();
     let mut world = MemWorld::new(alloc, 1000);
-    assert!(rt; are_answered(alloc, &mut world)?);
+    assert!(rt; are_answered(alloc, &mut world));
     for (version, want) in [(0, ""), (1, " 1 3"), (2, " 1 1 2 3")] {
         assert!(rt; is_replayed(alloc, &world, version, want)?, "of {want}");
     }
