@@ -1,6 +1,6 @@
 -- A session: statements one after another under one actor's number.
 use Rattle.std.specs.Prelude.{◌≡◌, ◌⊎◌, Bool, true, false, ◌<◌, ◌≤◌, ℕ, ◌+◌, ◌*◌, length, List, [], ◌∷◌, ◌++◌, Option, Some, None, vec_capacity, IfSome}
-use Rattle.row_base.specs.declared.limits.TheConstants.{MAX_ATTEMPTS}
+use Rattle.row_base.specs.declared.limits.TheConstants.{MAX_ATTEMPTS, MAX_STATEMENTS}
 use Rattle.edge_api.specs.declared.call.Call.{Call}
 use Rattle.edge_api.specs.declared.call.Tag.{Tag}
 use Rattle.edge_api.specs.declared.actor.Stage.{Stage as Place}
@@ -152,7 +152,7 @@ pub record IsSettled (s : Session) : Type 0 where
   pub now : IsReadyNow s.current s.actor s.later.items
   pub limit : IsLimit s.limit
   pub room : length s.replies.items + count_now s.current + length s.later.items ≤ vec_capacity s.replies
-  pub numbers : s.next + length s.later.items < 4294967296
+  pub numbers : s.next + length s.later.items ≤ 1 + MAX_STATEMENTS
   pub counted : IsCounted s.current (length s.replies.items) s.next
 
 -- the next call is made ready, and may be answered
@@ -167,7 +167,7 @@ pub record IsIdle (s : Session) : Type 0 where
   pub limit : IsLimit s.limit
   pub room : length s.later.items ≤ vec_capacity s.replies
   pub first : s.next ≡ 1
-  pub numbers : s.next + length s.later.items < 4294967296
+  pub numbers : s.next + length s.later.items ≤ 1 + MAX_STATEMENTS
 
 -- the statement under way has asked
 abbrev pub AsksNow : Option Txn → Tag → Call → Option Txn → Type 0

@@ -39,7 +39,7 @@ fn take_first(
     next: &mut u32,
     later: &mut VecDeque<Statement>,
 ) -> Option<(Tag, Statement)>
-    requires numbers { next.old + length later.old.items < 4294967296 }
+    requires numbers { next.old + length later.old.items ≤ 1 + MAX_STATEMENTS }
     ensures first { IfSome result (λ first. (limit : ℕ) → plans_from actor limit next.old later.old.items ≡ record { tag = first.0; statement = first.1; limit = limit } ∷ plans_from actor limit next.new later.new.items) }
     ensures tag { IfSome result (λ first. first.0 ≡ record { actor = actor; statement = next.old }) }
     ensures next { IfSome result (λ first. next.new ≡ next.old + 1) }
@@ -73,10 +73,10 @@ fn begin(
     later: &mut VecDeque<Statement>,
 ) -> Option<Txn>
     requires limit { IsLimit limit }
-    requires numbers { next.old + length later.old.items < 4294967296 }
+    requires numbers { next.old + length later.old.items ≤ 1 + MAX_STATEMENTS }
     ensures begins { Begins (plans_from actor limit next.old later.old.items) (plans_from actor limit next.new later.new.items) result }
     ensures fewer { count_now result + length later.new.items ≡ length later.old.items }
-    ensures numbers { next.new + length later.new.items < 4294967296 }
+    ensures numbers { next.new + length later.new.items ≤ 1 + MAX_STATEMENTS }
     ensures ready { IfSome result txn_specs.IsReady }
     ensures actor { IfSome result (λ t. t.tag.actor ≡ actor) }
     ensures last { result ≡ None → later.new.items ≡ [] }
@@ -259,7 +259,7 @@ impl Session {
         requires done { done.pending ≡ None }
         requires limit { IsLimit self.old.limit }
         requires room { length self.old.replies.items + 1 + length self.old.later.items ≤ vec_capacity self.old.replies }
-        requires numbers { self.old.next + length self.old.later.items < 4294967296 }
+        requires numbers { self.old.next + length self.old.later.items ≤ 1 + MAX_STATEMENTS }
         ensures ready { IfSome result txn_specs.IsReady }
         ensures tag { IfSome result (λ t. t.tag.actor ≡ self.old.actor) }
         ensures actor { self.new.actor ≡ self.old.actor }
@@ -267,7 +267,7 @@ impl Session {
         ensures kill { self.new.kill ≡ self.old.kill }
         ensures current { self.new.current ≡ self.old.current }
         ensures room { length self.new.replies.items + count_now result + length self.new.later.items ≤ vec_capacity self.new.replies }
-        ensures numbers { self.new.next + length self.new.later.items < 4294967296 }
+        ensures numbers { self.new.next + length self.new.later.items ≤ 1 + MAX_STATEMENTS }
         ensures fewer { count_now result + length self.new.later.items ≡ length self.old.later.items }
         ensures last { result ≡ None → self.new.later.items ≡ [] }
         ensures replied { IsDone done self.old.replies.items self.new.replies.items }
@@ -292,7 +292,7 @@ impl Session {
         requires limit { IsLimit self.old.limit }
         requires none { self.old.current ≡ None }
         requires room { length self.old.replies.items + 1 + length self.old.later.items ≤ vec_capacity self.old.replies }
-        requires numbers { self.old.next + length self.old.later.items < 4294967296 }
+        requires numbers { self.old.next + length self.old.later.items ≤ 1 + MAX_STATEMENTS }
         requires counted { IsCounted (Some txn) (length self.old.replies.items) self.old.next }
         ensures settled { IsSettled self.new }
         ensures goes_on { GoesOn txn self.old.replies.items self.new.current self.new.replies.items }

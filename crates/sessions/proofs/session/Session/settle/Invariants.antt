@@ -1,4 +1,5 @@
 use Rattle.std.proofs.Common.{◌≡◌, ◌≤◌, ◌<◌, ◌+◌, ◌*◌, Bool, List, length}
+use Rattle.row_base.specs.declared.limits.TheConstants.{MAX_STATEMENTS}
 use Rattle.std.specs.Prelude.{Some, None, vec_capacity}
 use Rattle.op_types.specs.declared.reply.Reply.{Reply}
 use Rattle.call_phases.specs.Phases.{Entries}
@@ -17,7 +18,7 @@ invariant-turns l = record {
   kill : l.self.kill ≡ l.initial.self.kill;
   current : l.self.current ≡ None;
   room : length l.self.replies.items + 1 + length l.self.later.items ≤ vec_capacity l.self.replies;
-  numbers : l.self.next + length l.self.later.items < 4294967296;
+  numbers : l.self.next + length l.self.later.items ≤ 1 + MAX_STATEMENTS;
   counted : IsCounted (Some l.txn) (length l.self.replies.items) l.self.next;
   goes_on : GoesOnBy l.initial.txn l.initial.self.replies.items l.txn l.self.replies.items;
   left : length l.self.later.items * (1 + most_calls) + left_of l.txn.stage ≤ length l.initial.self.later.items * (1 + most_calls) + left_of l.initial.txn.stage;
