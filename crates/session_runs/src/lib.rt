@@ -138,8 +138,8 @@ pub fn run_program<W: World>(
     ensures counted { FaultsAreCounted (W.journal world.old) (W.journal world.new) (W.faults world.old) (W.faults world.new) }
 {
     let mut replies = Vec::with_capacity(alloc, sessions.len() + 1)?;
-    let mut first = table_session(alloc, table, limit)?;
     let mut others = make_sessions(alloc, sessions, limit)?;
+    let mut first = table_session(alloc, table, limit)?;
     run_all(&mut first, &mut others, world, items);
     replies.push(Items::from_vec(first.into_replies())).unwrap();
     give_replies(&mut replies, others);
