@@ -1,12 +1,12 @@
 -- A statement that still has a call to make has no other reply than want of memory.
-use Rattle.std.proofs.Common.{◌≡◌, ◌⊎◌, inl, inr, ℕ, List, [], ap, subst}
+use Rattle.std.proofs.Common.{◌≡◌, inl, inr, ℕ, List, [], ap, subst}
 use Rattle.std.specs.Prelude.{Option, Some, None, MatchOption, Result}
 use Rattle.edge_api.specs.declared.call.Call.{Call}
 use Rattle.edge_api.specs.declared.call.Listed.{Listed}
 use Rattle.op_types.specs.declared.refusal.Refusal.TheVariants as refusal
 use Rattle.op_types.specs.declared.reply.Reply.TheVariants.{Refused}
 use Rattle.call_phases.specs.Phases.{Entries}
-use Rattle.call_phases.specs.Ending.{Ending, Open, Failed, ThenBy}
+use Rattle.call_phases.specs.Ending.{Ending, ThenBy}
 use Rattle.call_phases.specs.Endings.{IsOpenEnd}
 use Rattle.call_phases.specs.Step.{Steps}
 use Rattle.call_phases.specs.Clock as clock
