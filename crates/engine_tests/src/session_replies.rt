@@ -41,7 +41,9 @@ fn replies(alloc: Global, kill: Option<u64>) -> Result<String, Fail> {
     let mut world = MemWorld::new(alloc, 1_700_000_000_000);
     let mut session = two_selects(alloc, kill)?;
     run_piece(&mut session, &mut world, Till::End);
-    Ok(words(alloc, session.replies())?)
+    let told = words(alloc, session.replies());
+    drop(session);
+    Ok(told?)
 }
 
 #[test]
