@@ -1,5 +1,5 @@
 //! Attempts against answers that are given one after another, with the calls worked out by hand.
-ghost use Rattle.std.specs.Prelude.{◌≡◌, ◌<◌, ◌≤◌, ◌^◌, IsTrue, IfOk, IfSome};
+ghost use Rattle.std.specs.Prelude.{◌≡◌, ◌<◌, ◌≤◌, ◌^◌, IsTrue, IfSome};
 ghost use Rattle.edge_api.specs.Actor.{IsFit};
 ghost use Rattle.committer.specs.Machine.{IsReady};
 
@@ -107,41 +107,58 @@ fn str_of(body: &Body) -> &str {
     str::from_utf8(body.as_bytes()).unwrap_or("?")
 }
 
-/// Notes a call, a commit put with a mark.
-fn note(text: &mut String, at_put: bool, call: &Call) -> Result<(), AllocError> {
+/// Notes a call, a commit put with a mark. Where memory is wanting it is left out, and the text isn't the one that is
+/// wanted.
+fn note(text: &mut String, at_put: bool, call: &Call) {
     if at_put {
-        text.push_str("!")?;
+        text.push_str("!").ok();
     }
     match call {
-        Call::Now => text.push_str("now; "),
-        Call::Get(name) => write!(text, "get {}; ", version_of(name)),
-        Call::PutNew(name, body) => { write!(text, "put {} {}; ", version_of(name), str_of(body)) }
-        _ => text.push_str("another; "),
+        Call::Now => text.push_str("now; ").ok(),
+        Call::Get(name) => write!(text, "get {}; ", version_of(name)).ok(),
+        Call::PutNew(name, body) => {
+            write!(text, "put {} {}; ", version_of(name), str_of(body)).ok()
+        }
+        _ => text.push_str("another; ").ok(),
+    };
+}
+
+/// The answer to a call, where it fits.
+fn answer_to(alloc: Global, call: &Call, say: Say) -> Fed
+    ensures { IsFit call.now result }
+{
+    match fed(alloc, say) {
+        Ok(input) => {
+            if fits(call, &input) {
+                input
+            } else {
+                Fed::NoMemory
+            }
+        }
+        Err(_) => Fed::NoMemory,
     }
 }
 
-fn turn(
-    alloc: Global,
-    attempts: &mut Attempts<Passing>,
-    say: Say,
-    text: &mut String,
-) -> Result<(), NoMemory>
+fn turn(alloc: Global, attempts: &mut Attempts<Passing>, say: Say, text: &mut String)
     requires { IsReady attempts.old }
-    ensures { IfOk result (λ _. IsReady attempts.new) }
+    ensures { IsReady attempts.new }
 {
     let at_put = attempts.at_put();
     let Some(call) = attempts.next() else {
-        return Ok(());
+        return;
     };
-    note(text, at_put, &call)?;
-    let input = fed(alloc, say)?;
-    let input = if fits(&call, &input) {
-        input
-    } else {
-        Fed::NoMemory
-    };
-    attempts.feed(input);
-    Ok(())
+    note(text, at_put, &call);
+    attempts.feed(answer_to(alloc, &call, say));
+}
+
+/// Makes the calls, with these answers.
+fn turns(alloc: Global, attempts: &mut Attempts<Passing>, says: &[Say], text: &mut String)
+    requires { IsReady attempts.old }
+    ensures { IsReady attempts.new }
+{
+    for say in says {
+        turn(alloc, attempts, *say, text);
+    }
 }
 
 fn fault_text(alloc: Global, fault: AttemptFault<u64>) -> Result<String, AllocError> {
@@ -195,6 +212,20 @@ fn is_right(row: Row) -> bool
     low && 0 < row.limit && row.limit <= 1_000_000
 }
 
+/// How the attempts ended, or that they are open.
+fn end_of(alloc: Global, mut attempts: Attempts<Passing>) -> Result<String, AllocError>
+    requires { IsReady attempts }
+{
+    if attempts.next().is_some() {
+        drop(attempts);
+        return String::from_str(alloc, "open");
+    }
+    match attempts.finish() {
+        Ok(won) => landed_text(alloc, won.landed),
+        Err(lost) => fault_text(alloc, lost.fault),
+    }
+}
+
 /// The calls, and how the attempts ended. They start at 1000, and no text is written after 2000.
 fn run(alloc: Global, row: Row) -> Result<String, NoMemory> {
     let mut text = String::new(alloc);
@@ -207,16 +238,8 @@ fn run(alloc: Global, row: Row) -> Result<String, NoMemory> {
         until: 2000,
     };
     let mut attempts = Attempts::new(alloc, judge, 1000, row.retention, row.read, row.limit);
-    for say in row.says {
-        turn(alloc, &mut attempts, *say, &mut text)?;
-    }
-    let ended = match attempts.next() {
-        Some(_) => String::from_str(alloc, "open")?,
-        None => match attempts.finish() {
-            Ok(won) => landed_text(alloc, won.landed)?,
-            Err(lost) => fault_text(alloc, lost.fault)?,
-        },
-    };
+    turns(alloc, &mut attempts, row.says, &mut text);
+    let ended = end_of(alloc, attempts)?;
     text.push_str(ended.as_str())?;
     Ok(text)
 }
