@@ -1,0 +1,5 @@
+mod Places
+mod Steps
+pub mod Orders
+pub mod Truths
+mod ReadBack

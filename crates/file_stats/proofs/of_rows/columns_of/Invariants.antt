@@ -1,0 +1,9 @@
+-- The statistics so far, before those of the columns that are left, are those of all.
+use Rattle.std.proofs.Common.{◌≡◌, ◌++◌, drop}
+use Rattle.file_stats.specs.Columns.{each_from, of_data_column, column_stats, column_in, columns_of}
+use Rattle.file_stats.proofs.of_rows.columns_of.Given as goal
+
+abbrev pub invariant-loop-i : goal.invariant-loop-i
+invariant-loop-i l =
+    l.columns.items ++ each_from (λ k c. of_data_column l.schema k (column_stats (column_in l.rows k))) l.i (drop l.i l.schema.columns)
+    ≡ columns_of l.schema l.rows

@@ -1,0 +1,5 @@
+use Rattle.file_stats.proofs.Truths.{are_true}
+use Rattle.file_stats.proofs.of_rows.stats_of.Goals as goal
+
+pub returns-clause-truth : goal.returns-clause-truth
+returns-clause-truth c = are_true c.args.schema.now c.args.rows.now _ _ c.len.ensures c.in_ok-columns.ensures

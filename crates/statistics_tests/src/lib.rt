@@ -1,0 +1,5 @@
+//! Tests of the statistics of files.
+#![tactic(auto)]
+
+#[cfg(test)]
+mod statistics;
