@@ -1,8 +1,8 @@
 -- The arrows of a statement: a phase, and what follows it, told of what readers and judges stand for.
 use Rattle.std.proofs.Common.{◌≡◌, ◌⊎◌, inl, inr, ℕ, zero, suc, ◌<◌, List, [], ◌∷◌, length, Bool, true, false, refl, sym, subst, arith}
-use Rattle.std.specs.Prelude.{nat_lt, Option, Some, None, MatchOption, MatchBool, IfSome, Result, Ok, Err}
+use Rattle.std.specs.Prelude.{nat_lt, Option, Some, None, MatchOption, MatchBool, IfSome, IsSome, Result, Ok, Err}
 use Rattle.edge_api.specs.declared.call.Tag.{Tag}
-use Rattle.edge_api.specs.declared.actor.Fed.{Fed}
+use Rattle.edge_api.specs.declared.actor.Fed.TheVariants.{NoMemory}
 use Rattle.edge_api.specs.declared.call.Listed.{Listed}
 use Rattle.row_base.specs.declared.row.Datum.{Datum}
 use Rattle.op_types.specs.declared.refusal.ObjectFault.{ObjectFault}
@@ -14,7 +14,7 @@ use Rattle.line_texts.specs.Texts.{text_of_add, text_of_rows}
 use Rattle.snapshot_replay.specs.Table.{Snapshot, paths_of}
 use Rattle.call_phases.specs.Phases.{Entries}
 use Rattle.call_phases.specs.Endings.{Then}
-use Rattle.call_phases.specs.Machine.{Goes}
+use Rattle.call_phases.specs.Machine.{Stops}
 use Rattle.call_phases.specs.Step.{FedBy}
 use Rattle.call_phases.specs.Gets.{AtGets, GetsAll}
 use Rattle.call_phases.specs.Puts.{PutsAll}
@@ -22,7 +22,6 @@ use Rattle.call_phases.specs.Views.{result_by}
 use Rattle.call_phases.specs.declared.gets.GetFault.{GetFault}
 use Rattle.call_phases.specs.declared.puts.File.{File}
 use Rattle.call_phases.proofs.Chain.{then_gets, then_puts}
-use Rattle.call_phases.proofs.Fed.{stage_goes}
 use Rattle.call_phases.proofs.Views.{gets_view}
 use Rattle.committer.specs.Attempts.{AttemptsEnd}
 use Rattle.committer.specs.Machine.{first_after}
@@ -143,6 +142,10 @@ module _ (tag : Tag) (limit : ℕ) (out : Option Finish) where
   no_log kept r s es (inl e) h = inr (subst (λ (x : Refusal). Ends out kept x es) e h)
   no_log kept r s es (inr e) h = inl (subst (λ (x : Refusal). Ends out kept x es) e h)
 
--- a stage that was fed, where its arm is known
-pub fed_at : (self old new : Stage) (input : Fed) → self ≡ old → IfSome (call_of old) (λ call. FedBy (Rest old) call input (Rest new)) → IfSome (call_of self) (λ call. Goes Rest self call input new)
-fed_at self old new input is goes = subst (λ (s : Stage). IfSome (call_of s) (λ call. Goes Rest s call input new)) (sym is) (stage_goes Rest (Rest old) old new (call_of old) input (λ es y h. h) goes)
+-- memory was wanting for the call of a phase: nothing follows
+if_some : {A : Type 0} (o : Option A) (P : Type 0) → IsSome o → IfSome o (λ a. P) → P
+if_some None P some h = cc
+if_some (Some a) P some h = h
+
+pub unfed_at : (self old new : Stage) → self ≡ old → IsSome (call_of self) → IfSome (call_of old) (λ call. FedBy (Rest old) call NoMemory (Rest new)) → Stops Rest self new
+unfed_at self old new is some goes = subst (λ (s : Stage). Stops Rest s new) (sym is) (if_some (call_of old) (Stops Rest old new) (subst (λ (s : Stage). IsSome (call_of s)) is some) goes)

@@ -108,6 +108,16 @@ is_settled (stage.Data s p) = is_some (puts.call_at p.stage)
 is_settled (stage.Commit s a) = is_some (attempts.call_of a)
 is_settled (stage.Done f) = true
 
+-- its phase waits for no answer
+abbrev pub Rests : Stage → Type 0
+Rests (stage.Clock s c) = c.call ≡ clock.call_at c.stage
+Rests (stage.List s l) = l.names.call ≡ list.call_at l.names.stage
+Rests (stage.Load s g) = g.call ≡ gets.call_at g.stage
+Rests (stage.Scan s g) = g.call ≡ gets.call_at g.stage
+Rests (stage.Data s p) = p.call ≡ puts.call_at p.stage
+Rests (stage.Commit s a) = attempts.IsReady a
+Rests (stage.Done f) = ⊥
+
 -- what the entries still to come have to be, by the outcome
 abbrev pub Rest : Stage → Entries → Option Finish → Type 0
 Rest (stage.Clock s c) es out = Steps (clock.RestAt c.stage) (ByCall s.kept) (NextClock s) es out

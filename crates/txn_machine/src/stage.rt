@@ -10,14 +10,14 @@ ghost use Rattle.statement_calls.specs.Answered.{Answered};
 ghost use Rattle.txn_machine.specs.Machine.{call_of, left_of, is_settled, Rest};
 ghost use Rattle.txn_machine.specs.Place.{place_of};
 
-use crate::resume::Resumes;
+use crate::resume::{Resumes, advance};
 use crate::{
     ClockStep, CommitJudge, CommitStep, Commits, DataStep, Files, ListLog, ListStep, LoadStep,
     Plan, ScanStep,
 };
-use call_phases::{Gets, Phase, Puts, ReadClock, Ready, Stages, feed};
+use call_phases::{Gets, Phase, Puts, ReadClock, Ready, Stages, feed, go};
 use committer::Attempts;
-use edge_api::Fed;
+use edge_api::{Answer, Call, Fed};
 use op_types::{Refusal, Reply, Statement};
 use statement_calls::{Finish, Kept};
 
@@ -48,6 +48,10 @@ impl Stages for Stage {
 }
 
 impl Resumes for Stage {
+    ghost use Rattle.txn_machine.specs.Machine.{Rests};
+
+    ghost rests = { Rests };
+
     fn idle() -> Stage {
         Stage::Done(Finish {
             reply: Reply::Killed,
@@ -55,14 +59,38 @@ impl Resumes for Stage {
         })
     }
 
-    fn fed(self, input: Fed) -> Ready<Stage> {
+    fn go_on(&mut self, answer: Answer) -> Option<Call> {
         match self {
-            Stage::Clock(step, clock) => feed(step, clock, input),
-            Stage::List(step, list) => feed(step, list, input),
-            Stage::Load(step, load) => feed(step, load, input),
-            Stage::Scan(step, scan) => feed(step, scan, input),
-            Stage::Data(step, puts) => feed(step, puts, input),
-            Stage::Commit(step, attempts) => feed(step, attempts, input),
+            Stage::Clock(_, clock) => advance(clock, answer),
+            Stage::List(_, list) => advance(list, answer),
+            Stage::Load(_, load) => advance(load, answer),
+            Stage::Scan(_, scan) => advance(scan, answer),
+            Stage::Data(_, puts) => advance(puts, answer),
+            Stage::Commit(_, attempts) => advance(attempts, answer),
+            Stage::Done(_) => unreachable!(),
+        }
+    }
+
+    fn ended(self) -> Ready<Stage> {
+        match self {
+            Stage::Clock(step, clock) => go(step, clock),
+            Stage::List(step, list) => go(step, list),
+            Stage::Load(step, load) => go(step, load),
+            Stage::Scan(step, scan) => go(step, scan),
+            Stage::Data(step, puts) => go(step, puts),
+            Stage::Commit(step, attempts) => go(step, attempts),
+            Stage::Done(_) => unreachable!(),
+        }
+    }
+
+    fn out_of_memory(self) -> Ready<Stage> {
+        match self {
+            Stage::Clock(step, clock) => feed(step, clock, Fed::NoMemory),
+            Stage::List(step, list) => feed(step, list, Fed::NoMemory),
+            Stage::Load(step, load) => feed(step, load, Fed::NoMemory),
+            Stage::Scan(step, scan) => feed(step, scan, Fed::NoMemory),
+            Stage::Data(step, puts) => feed(step, puts, Fed::NoMemory),
+            Stage::Commit(step, attempts) => feed(step, attempts, Fed::NoMemory),
             Stage::Done(_) => unreachable!(),
         }
     }
