@@ -35,7 +35,6 @@ fn with_digits(front: u64, digits: &[u8]) -> Option<u64>
 }
 
 /// The number of 64 bits that digits write, one digit at least. Leading zeros are taken.
-#[tactic(auto, using(crate::proofs::Numerals::no_digits, crate::proofs::Numerals::some_digits))]
 pub fn read_natural(text: &[u8]) -> Option<u64>
     ensures { result ≡ spec.natural_in text.now }
 {
