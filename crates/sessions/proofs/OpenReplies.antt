@@ -49,9 +49,9 @@ use Rattle.txn_machine.specs.Readers.{wanted_commit, commits_after, wanted_file,
 
 request_open : {Q V : Type 0} (asks : Q → Call) (rest : Q → Entries → Ending CallFault V → Type 0) (s : RequestStage Q V) (c : Call) (o : Ending CallFault V) → ((q : Q) → rest q [] o → IsOpenEnd of_call.NoMemory o)
     → request.call_at asks s ≡ Some c → request.RestAt rest s [] o → IsOpenEnd of_call.NoMemory o
-request_open asks rest (at_request.Asking q) c o open is h = open q h
-request_open asks rest (at_request.Answered v) c o open is h = cc
-request_open asks rest (at_request.Failed f) c o open is h = cc
+request_open asks rest (at_request.Asking q) c o waits is h = waits q h
+request_open asks rest (at_request.Answered v) c o waits is h = cc
+request_open asks rest (at_request.Failed f) c o waits is h = cc
 
 match_some : {A : Type 0} (o : Option A) (P Q : Type 0) (a : A) → o ≡ Some a → MatchOption o P (λ x. Q) → Q
 match_some None P Q a is h = cc
