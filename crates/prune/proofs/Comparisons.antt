@@ -1,6 +1,6 @@
 -- A comparison's truth is one of those that the facts leave.
-use Rattle.std.proofs.Common.{◌≡◌, Bool, true, false, not, ◌&&◌, Option, Some, None, if◌then◌else◌, refl, sym, ap, ◌∙◌}
-use Rattle.std.specs.Prelude.{IfSome, option_map}
+use Rattle.std.proofs.Common.{◌≡◌, Bool, true, false, not, ◌&&◌, Option, Some, None, refl, sym, ap, ◌∙◌}
+use Rattle.std.specs.Prelude.{IfSome}
 use Rattle.std.specs.declared.cmp.Ordering.{Ordering}
 use Rattle.std.specs.declared.cmp.Ordering.TheVariants.{Less, Equal, Greater}
 use Rattle.std.specs.Ordering.{ordering_then, ordering_reverse, is_le, is_lt, is_ge, is_gt, is_eq, is_ne}
@@ -8,18 +8,17 @@ use Rattle.row_base.specs.declared.row.Datum.{Datum}
 use Rattle.row_base.specs.declared.row.Datum.TheVariants as datum
 use Rattle.row_base.specs.RowOrder.{datum_cmp}
 use Rattle.row_base.specs.RowOrderLaws.{datum_cmp_total}
-use Rattle.predicates.specs.declared.truth.Truth.{Truth}
-use Rattle.predicates.specs.declared.truth.Truth.TheVariants.{Yes, No, Unknown}
+use Rattle.predicates.specs.declared.truth.Truth.TheVariants.{Unknown}
 use Rattle.predicates.specs.declared.pred.Op.{Op}
 use Rattle.predicates.specs.declared.pred.Op.TheVariants as op
 use Rattle.predicates.specs.Truths.{is_null, compared, certain, holds}
 use Rattle.prune.specs.declared.possible.Possible.{Possible}
 use Rattle.prune.specs.declared.column.ColumnFacts.{ColumnFacts}
 use Rattle.prune.specs.Sets.{has, only}
-use Rattle.prune.specs.Facts.{if_known, is_at, may_be_at, may_be_elsewhere, may_hold, opposite, against, compared_by, two_by, null_by}
+use Rattle.prune.specs.Facts.{if_known, may_be_elsewhere, may_hold, opposite, against, compared_by, two_by, null_by}
 use Rattle.prune.specs.Laws.{HoldsOf}
 use Rattle.file_stats.proofs.Orders.{chained, le_lt, le_le, lt_le, lt-le, eq-le, gt-is, ge-is, eq-is}
-use Rattle.prune.proofs.Sets.{has_only, or_true}
+use Rattle.prune.proofs.Sets.{or_true}
 
 -- a value that is known to be at least lo, or of which no bound is known
 abbrev AtLeast : Option Datum → Datum → Type 0

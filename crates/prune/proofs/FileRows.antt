@@ -1,5 +1,5 @@
 -- Facts of a file hold of its rows where what the log says of it is true of them.
-use Rattle.std.proofs.Common.{◌≡◌, ◌==◌, ℕ, ◌<◌, ◌≤◌, ◌+◌, Bool, true, false, not, ◌&&◌, if◌then◌else◌, List, [], ◌∷◌, length, map, slice_index_or, Option, Some, None, suc, zero, arith, refl, sym, ap, ◌∙◌, subst}
+use Rattle.std.proofs.Common.{◌≡◌, ℕ, ◌<◌, ◌≤◌, ◌+◌, Bool, true, false, not, if◌then◌else◌, List, [], ◌∷◌, length, slice_index_or, Option, Some, None, suc, zero, arith, refl, sym, ap, ◌∙◌, subst}
 use Rattle.std.specs.Prelude.{IfSome}
 use Rattle.std.proofs.lemmas.Bool.{ne_eqb}
 use Rattle.std.specs.Ordering.{is_le}
@@ -7,7 +7,6 @@ use Rattle.std.proofs.lemmas.Cmp.{tied_itself}
 use Rattle.row_base.specs.declared.row.Datum.{Datum}
 use Rattle.row_base.specs.declared.row.Datum.TheVariants as datum
 use Rattle.row_base.specs.declared.schema.Column.{Column}
-use Rattle.row_base.specs.RowOrder.{datum_cmp}
 use Rattle.row_base.specs.RowOrderLaws.{datum_cmp_total}
 use Rattle.row_base.specs.Schema.{TableSchema, is_partition_column}
 use Rattle.predicates.specs.Truths.{is_null, cell}
@@ -19,7 +18,7 @@ use Rattle.file_stats.proofs.Truths.{each_at}
 use Rattle.prune.specs.declared.column.ColumnFacts.{ColumnFacts}
 use Rattle.prune.specs.Facts.{no_facts}
 use Rattle.prune.specs.Known.{is_count, are_same, known_of, exact_facts, column_facts, facts_of}
-use Rattle.prune.specs.Laws.{HoldsOf, HoldsOfRow, DescribesRows, FactsHold}
+use Rattle.prune.specs.Laws.{HoldsOf, DescribesRows, FactsHold}
 
 -- ---- one column
 

@@ -1,5 +1,5 @@
 -- What a connective makes of members is a member of what it makes of sets.
-use Rattle.std.proofs.Common.{◌≡◌, Bool, true, false, ◌&&◌, ◌||◌, refl, sym, ap, ◌∙◌}
+use Rattle.std.proofs.Common.{◌≡◌, Bool, true, false, ◌&&◌, ◌||◌, refl, ap, ◌∙◌}
 use Rattle.predicates.specs.declared.truth.Truth.{Truth}
 use Rattle.predicates.specs.declared.truth.Truth.TheVariants.{Yes, No, Unknown}
 use Rattle.prune.specs.declared.possible.Possible.{Possible}

@@ -1,8 +1,8 @@
 -- The truth that a row gives is one of those that its file may have.
-use Rattle.std.proofs.Common.{◌≡◌, ◌≢◌, slice_index_or, ℕ, Bool, true, false, List, [], ◌∷◌, refl, sym, ap, ◌∙◌, subst}
+use Rattle.std.proofs.Common.{◌≡◌, ◌≢◌, slice_index_or, ℕ, true, false, List, [], ◌∷◌, refl, subst}
 use Rattle.row_base.specs.declared.row.Datum.{Datum}
 use Rattle.predicates.specs.declared.truth.Truth.{Truth}
-use Rattle.predicates.specs.declared.truth.Truth.TheVariants.{Yes, No, Unknown}
+use Rattle.predicates.specs.declared.truth.Truth.TheVariants.{Yes}
 use Rattle.predicates.specs.declared.pred.Op.{Op}
 use Rattle.predicates.specs.declared.pred.Op.TheVariants as op
 use Rattle.predicates.specs.declared.pred.Operand.{Operand}
@@ -10,15 +10,15 @@ use Rattle.predicates.specs.declared.pred.Operand.TheVariants as operand
 use Rattle.predicates.specs.declared.pred.Pred.{Pred, map-Pred}
 use Rattle.predicates.specs.declared.pred.Pred.TheOpen.{Pred-F}
 use Rattle.predicates.specs.declared.pred.Pred.TheViews.{roll-Pred}
-use Rattle.predicates.specs.declared.pred.Pred.TheFolds.{fold-Pred, fold-roll-Pred, ind-Pred}
+use Rattle.predicates.specs.declared.pred.Pred.TheFolds.{fold-roll-Pred, ind-Pred}
 use Rattle.predicates.specs.Kleene.{kleene_not, kleene_and, kleene_or}
-use Rattle.predicates.specs.Truths.{cell, compared, certain, is_null, right_side, key_in, keys_in, truth_step, truth_of}
+use Rattle.predicates.specs.Truths.{cell, compared, right_side, key_in, keys_in, truth_step, truth_of}
 use Rattle.prune.specs.declared.possible.Possible.{Possible}
 use Rattle.prune.specs.declared.column.ColumnFacts.{ColumnFacts}
-use Rattle.prune.specs.Sets.{has, only, pairs, images}
-use Rattle.prune.specs.Facts.{facts_at, compared_by, operand_by, null_by, key_by, keys_by, possible_step, possible_in}
-use Rattle.prune.specs.Laws.{HoldsOf, HoldsOfRow, EachTruthIsPossible, NoRowIsLost}
-use Rattle.prune.proofs.Sets.{has_only, has_image, has_pair}
+use Rattle.prune.specs.Sets.{has}
+use Rattle.prune.specs.Facts.{facts_at, compared_by, operand_by, key_by, keys_by, possible_step, possible_in}
+use Rattle.prune.specs.Laws.{HoldsOfRow, EachTruthIsPossible, NoRowIsLost}
+use Rattle.prune.proofs.Sets.{has_image, has_pair}
 use Rattle.prune.proofs.Comparisons.{literal_has, two_has, null_has}
 
 operand_has : (fs : List ColumnFacts) (row : List Datum) → HoldsOfRow fs row → (o : Op) (c : ℕ) (r : Operand ℕ) → has (operand_by fs o c r) (compared o (cell row c) (right_side row r)) ≡ true

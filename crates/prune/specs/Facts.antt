@@ -1,12 +1,10 @@
 -- What a file's facts say of a predicate.
-use Rattle.std.specs.Prelude.{ℕ, ◌&&◌, ◌||◌, not, List, [], ◌∷◌, Bool, true, false, Option, Some, None, if◌then◌else◌, option_map, slice_index_or}
+use Rattle.std.specs.Prelude.{ℕ, ◌&&◌, ◌||◌, not, List, [], ◌∷◌, Bool, true, false, Option, Some, None, option_map, slice_index_or}
 use Rattle.std.specs.declared.cmp.Ordering.{Ordering}
-use Rattle.std.specs.declared.cmp.Ordering.TheVariants.{Equal}
-use Rattle.std.specs.Ordering.{is_eq, is_ne, is_lt, is_le, is_gt, is_ge}
+use Rattle.std.specs.Ordering.{is_eq, is_lt, is_le, is_gt, is_ge}
 use Rattle.row_base.specs.declared.row.Datum.{Datum}
 use Rattle.row_base.specs.declared.row.Datum.TheVariants as datum
 use Rattle.row_base.specs.RowOrder.{datum_cmp}
-use Rattle.predicates.specs.declared.truth.Truth.{Truth}
 use Rattle.predicates.specs.declared.truth.Truth.TheVariants.{Yes, No, Unknown}
 use Rattle.predicates.specs.declared.pred.Op.{Op}
 use Rattle.predicates.specs.declared.pred.Op.TheVariants as op
@@ -15,10 +13,9 @@ use Rattle.predicates.specs.declared.pred.Operand.TheVariants as operand
 use Rattle.predicates.specs.declared.pred.Pred.{Pred, fold-Pred}
 use Rattle.predicates.specs.declared.pred.Pred.TheOpen.{Pred-F}
 use Rattle.predicates.specs.Kleene.{kleene_not, kleene_and, kleene_or}
-use Rattle.predicates.specs.Truths.{is_null, cell}
 use Rattle.prune.specs.declared.possible.Possible.{Possible}
 use Rattle.prune.specs.declared.column.ColumnFacts.{ColumnFacts}
-use Rattle.prune.specs.Sets.{images, pairs, only, has}
+use Rattle.prune.specs.Sets.{images, pairs, only}
 
 -- no bound is known, or its order passes the test
 abbrev pub if_known : (Ordering → Bool) → Option Ordering → Bool

@@ -34,6 +34,7 @@ impl FileFacts {
     /// What the log says of a file that is added: a partition column has exactly its value, and of a data column the
     /// statistics say what they say. Statistics that are absent, or no JSON object, say nothing. The fault is that of the
     /// first partition column, in the order of the schema, whose value has no reading.
+    #[tactic(auto, using(crate::proofs::FileRows::facts_width))]
     pub fn of(alloc: Global, schema: &Schema, add: &AddFile) -> Result<FileFacts, PartitionFault>
         ensures facts { Reads spec.is_memory result (spec.facts_in schema.now add.now.partition_values add.now.stats) }
         ensures width { IfOk result (λ f. length f ≡ length schema.now.columns) }
@@ -134,15 +135,13 @@ fn column_facts(
 }
 
 /// The facts of each column.
-#[tactic(auto, using(crate::proofs::FileRows::facts_width))]
 fn columns_of(
     alloc: Global,
     schema: &Schema,
     values: &[Datum],
     stats: &Stats,
 ) -> Result<Vec<ColumnFacts>, NoMemory>
-    ensures facts { IfOk result (λ v. v.items ≡ spec.facts_of schema.now values.now stats.now) }
-    ensures width { IfOk result (λ v. length v.items ≡ length schema.now.columns) }
+    ensures { IfOk result (λ v. v.items ≡ spec.facts_of schema.now values.now stats.now) }
 {
     let mut columns = Vec::with_capacity(alloc, schema.columns().len())?;
     for (i, _column) in schema.columns().iter().enumerate() {

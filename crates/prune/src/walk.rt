@@ -74,7 +74,6 @@ fn key(columns: &[u32], key: &[Datum], facts: &[ColumnFacts]) -> Possible
 }
 
 /// The truths of the key at this place among keys.
-#[tactic(auto, using(crate::proofs::KeyRows::same_length))]
 fn key_at(columns: &[u32], keys: &RowSlice<'_>, place: usize, facts: &[ColumnFacts]) -> Possible
     requires same { list_all (λ k. length k == length columns.now) keys.now ≡ true }
     requires bound { list_all (λ c. nat_lt c (length facts.now)) columns.now ≡ true }
