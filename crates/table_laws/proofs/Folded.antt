@@ -5,10 +5,8 @@ use Rattle.edge_api.specs.declared.call.Tag.{Tag}
 use Rattle.edge_api.specs.Journal.{Objects}
 use Rattle.op_types.specs.declared.statement.Statement.{Statement}
 use Rattle.op_types.specs.declared.reply.Reply.{Reply}
-use Rattle.table_rules.specs.Names.{commit_text}
 use Rattle.table_rules.specs.Told.{IsTag}
 use Rattle.call_phases.specs.Phases.{Entries}
-use Rattle.actor_core.specs.Entries.{own}
 use Rattle.table_changes.specs.Rows.{Row}
 use Rattle.table_changes.specs.Operations.{Operation, SameIfGiven, operated}
 use Rattle.table_changes.specs.Statements.{making_of}
@@ -16,21 +14,20 @@ use Rattle.table_changes.specs.Laws.{Landed, IsInOrder}
 use Rattle.table_changes.specs.Laws.{folded as folded_ops}
 use Rattle.table_changes.proofs.Folded.{each_version_is_folded}
 use Rattle.table_laws.specs.Operations.{Scope, NoRow, passes, may}
-use Rattle.table_laws.specs.History.{Put, put_under, commit_at, rows_of, rows_at, IsCommitted}
-use Rattle.table_laws.specs.Runs.{listed_by, version_read}
+use Rattle.table_laws.specs.History.{Put, commit_at, rows_of, rows_at, IsCommitted}
 use Rattle.table_laws.specs.Laws.{operation_at, appended}
 use Rattle.table_laws.specs.Folded.{done_by, folded, NoneMisses}
-use Rattle.table_laws.proofs.Shown.{InPut, backwards, given_is}
+use Rattle.table_laws.proofs.Shown.{InPut, backwards}
 use Rattle.table_laws.proofs.Journals.{Stands}
 use Rattle.table_laws.proofs.Readings.{empty_first}
-use Rattle.table_laws.proofs.Serial.{commit_put, within, facts, landed, operation_is, is_appended}
+use Rattle.table_laws.proofs.Serial.{facts, is_appended, op_is, read_is, widen_is}
 
 map_same : (xs : List Row) → map (λ x. x) xs ≡ xs
 map_same [] = refl
 map_same (x ∷ xs) = ap (λ (l : List Row). x ∷ l) (map_same xs)
 
 -- an operation that is there; where none is, one that changes nothing
-or_making : Option (Operation Scope) → Operation Scope
+abbrev or_making : Option (Operation Scope) → Operation Scope
 or_making None = making_of NoRow
 or_making (Some op) = op
 
@@ -46,20 +43,13 @@ module _ (K : Tag → List ℕ → List ℕ → Type 0) (script : Tag → Option
     abbrev facts_of : (k : ℕ) → k < top → Landed passes may (commit_at ps) (rows_of ps) k
     facts_of = facts K script replies tags past os ps s known top small is
 
-    op_is : (k : ℕ) (lt : k < top) → operation_at script journal ps (suc k) ≡ Some (facts_of k lt).op
-    unfolding facts landed
-    op_is k lt = let p = commit_put K script replies tags past os ps s known top small is k lt in operation_is K script replies tags past os ps s known journal is_past k p.0 (within K script replies tags past os ps s known top k small lt) p.1
+    op_there : (k : ℕ) (lt : k < top) → operation_at script journal ps (suc k) ≡ Some (facts_of k lt).op
+    op_there k lt = op_is K script replies tags past os ps s known journal is_past top small is k lt
 
     in_order : (k : ℕ) (lt : k < top) → IsInOrder passes may (commit_at ps) (rows_of ps) k (facts_of k lt)
-    unfolding facts landed
     in_order k lt =
-        let p = commit_put K script replies tags past os ps s known top small is k lt in
-        let c = s.commits k p.0 (within K script replies tags past os ps s known top k small lt) p.1 in
-        none k lt p.0 p.1 c.read (sym (given_is listed_by (p.0).tag past journal is_past) ∙ c.listed) c.op (op_is k lt)
-
-    widen_is : (k : ℕ) (lt : k < top) → widens k ≡ (facts_of k lt).widen
-    unfolding facts landed
-    widen_is k lt = refl
+        let r = read_is K script replies tags past os ps s known journal is_past top small is k lt in
+        none k lt r.0 r.1 (facts_of k lt).read r.2 (facts_of k lt).op (op_there k lt)
 
     -- both folds are one
     same_fold : (v : ℕ) → v ≤ top → folded script journal ps v ≡ folded_ops passes op_after widens v
@@ -67,7 +57,7 @@ module _ (K : Tag → List ℕ → List ℕ → Type 0) (script : Tag → Option
     same_fold (suc v) le =
         let lt : v < top = omega arith in
         let op = (facts_of v lt).op in
-        let there = op_is v lt in
+        let there = op_there v lt in
         ap (λ (o : Option (List Row)). done_by (operation_at script journal ps (suc v)) o) (same_fold v (omega arith))
         ∙ ap (λ (o : Option (Operation Scope)). done_by o (folded_ops passes op_after widens v)) there
         ∙ same_done op (folded_ops passes op_after widens v)
@@ -81,4 +71,4 @@ module _ (K : Tag → List ℕ → List ℕ → Type 0) (script : Tag → Option
     rows_folded =
         subst (λ (o : Option (List Row)). SameIfGiven (Some (rows_at ps top)) o) (sym (same_fold top (omega arith)))
         (each_version_is_folded Scope passes may (commit_at ps) (rows_of ps) top facts_of (appended script journal ps) op_after widens (empty_first ps)
-        (is_appended K script replies tags past os ps s known journal is_past top small is) (λ k lt. ap or_making (op_is k lt)) (λ k lt. widen_is k lt) in_order top (omega arith))
+        (is_appended K script replies tags past os ps s known journal is_past top small is) (λ k lt. ap or_making (op_there k lt)) (widen_is K script replies tags past os ps s known journal is_past top small is) in_order top (omega arith))

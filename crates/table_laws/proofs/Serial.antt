@@ -26,7 +26,7 @@ use Rattle.actor_core.specs.Entries.{own}
 use Rattle.table_changes.specs.Rows.{Row}
 use Rattle.table_changes.specs.Table.{File, FileLine, Meta, Commit, newer, reconciled, schema_of, times, rows_in}
 use Rattle.table_changes.specs.Conflicts.{first_clash}
-use Rattle.table_changes.specs.Operations.{IsSound, got_files, taken_files, reads_of}
+use Rattle.table_changes.specs.Operations.{Operation, IsSound, got_files, taken_files, reads_of}
 use Rattle.table_changes.specs.Laws.{Landed, Appends}
 use Rattle.table_changes.proofs.Winners.{each_version_is_serial}
 use Rattle.table_laws.specs.Commits.{changes_of, files_in, meta_in}
@@ -151,7 +151,7 @@ module _ (K : Tag → List ℕ → List ℕ → Type 0) (script : Tag → Option
       ∙ ap (λ (fs : List File). judge_of (meta_in k.s) k.op k.view fs t) (sym (base_is v p small is))
       ∙ q.2 t reads
 
-  pub landed : (v : ℕ) (p : Put) (small : suc v < 2 ^ 64) → put_under ps (commit_text (suc v)) ≡ Some p → Landed passes may (commit_at ps) (rows_of ps) v
+  landed : (v : ℕ) (p : Put) (small : suc v < 2 ^ 64) → put_under ps (commit_text (suc v)) ≡ Some p → Landed passes may (commit_at ps) (rows_of ps) v
   landed v p small is = record {
     op = (s.commits v p small is).op;
     sound = sound v p small is;
@@ -218,10 +218,10 @@ module _ (K : Tag → List ℕ → List ℕ → Type 0) (script : Tag → Option
       subst (λ (t : Commit). AllFilesRead ps (reconciled (live_at ps v) t.lines)) (sym (says v two.0 small two.1))
       (lines_read ps 0 (not c.op.moves) (taken_files (rows_of ps (schema_at ps c.read)) c.op (live_at ps c.read)) (new_file (two.0).tag c.start) (live_at ps v) (files_read v (omega (arith, small)) (one_below v small is)) reads)
 
-  pub commit_put : (n : ℕ) → n < 2 ^ 64 → IsCommitted ps n → (k : ℕ) → k < n → (p : Put) × (put_under ps (commit_text (suc k)) ≡ Some p)
+  commit_put : (n : ℕ) → n < 2 ^ 64 → IsCommitted ps n → (k : ℕ) → k < n → (p : Put) × (put_under ps (commit_text (suc k)) ≡ Some p)
   commit_put n small is k lt = some_put (put_under ps (commit_text (suc k))) (below n small is (suc k) (omega arith))
 
-  pub within : (n k : ℕ) → n < 2 ^ 64 → k < n → suc k < 2 ^ 64
+  within : (n k : ℕ) → n < 2 ^ 64 → k < n → suc k < 2 ^ 64
   within n k small lt = omega arith
 
   pub facts : (n : ℕ) → n < 2 ^ 64 → IsCommitted ps n → (k : ℕ) → k < n → Landed passes may (commit_at ps) (rows_of ps) k
@@ -229,7 +229,7 @@ module _ (K : Tag → List ℕ → List ℕ → Type 0) (script : Tag → Option
 
   module _ (journal : Entries) (is_past : past ≡ backwards [] journal) where
     -- the operation of a version
-    pub operation_is : (v : ℕ) (p : Put) (small : suc v < 2 ^ 64) (is : put_under ps (commit_text (suc v)) ≡ Some p) → operation_at script journal ps (suc v) ≡ Some (s.commits v p small is).op
+    operation_is : (v : ℕ) (p : Put) (small : suc v < 2 ^ 64) (is : put_under ps (commit_text (suc v)) ≡ Some p) → operation_at script journal ps (suc v) ≡ Some (s.commits v p small is).op
     operation_is v p small is =
         let k = s.commits v p small is in
         let read : version_read (own p.tag journal) ≡ Some k.read = sym (given_is listed_by p.tag past journal is_past) ∙ k.listed in
@@ -239,6 +239,21 @@ module _ (K : Tag → List ℕ → List ℕ → Type 0) (script : Tag → Option
     pub is_appended : (n : ℕ) (small : n < 2 ^ 64) (is : IsCommitted ps n) → Appends passes may (commit_at ps) (rows_of ps) n (facts n small is) (appended script journal ps)
     unfolding facts landed
     is_appended n small is k lt = let p = commit_put n small is k lt in ap inserted_by (operation_is k p.0 (within n k small lt) p.1)
+
+    -- what is known of a version below another, by the journal
+    pub op_is : (n : ℕ) (small : n < 2 ^ 64) (is : IsCommitted ps n) (k : ℕ) (lt : k < n) → operation_at script journal ps (suc k) ≡ Some (facts n small is k lt).op
+    unfolding facts landed
+    op_is n small is k lt = let p = commit_put n small is k lt in operation_is k p.0 (within n k small lt) p.1
+
+    pub read_is : (n : ℕ) (small : n < 2 ^ 64) (is : IsCommitted ps n) (k : ℕ) (lt : k < n) → (by : Put) × (put_under ps (commit_text (suc k)) ≡ Some by) × (version_read (own by.tag journal) ≡ Some (facts n small is k lt).read)
+    unfolding facts landed
+    read_is n small is k lt =
+        let p = commit_put n small is k lt in
+        (p.0, p.1, sym (given_is listed_by (p.0).tag past journal is_past) ∙ (s.commits k p.0 (within n k small lt) p.1).listed)
+
+    pub widen_is : (n : ℕ) (small : n < 2 ^ 64) (is : IsCommitted ps n) (k : ℕ) (lt : k < n) → (λ x. x) ≡ (facts n small is k lt).widen
+    unfolding facts landed
+    widen_is n small is k lt = refl
 
     pub step : (v : ℕ) → suc v < 2 ^ 64 → IsCommitted ps (suc v) → Step script journal ps v
     unfolding facts landed

@@ -228,7 +228,7 @@ module _ (K : List ℕ → List ℕ → Type 0) (tag : Tag) (limit : ℕ) (limit
         knows = record {
           below = omega arith;
           loaded = loaded_more (Known K past) (Known K (e ∷ past)) (known_more K past e) (suc read) s loaded;
-          files = none_got (files_in s);
+          files = none_got (Known K (e ∷ past)) (files_in s);
           new = rows;
           written = refl;
           stored = (text_of_rows rows, inl (put, is), faithful);
@@ -245,9 +245,9 @@ module _ (K : List ℕ → List ℕ → Type 0) (tag : Tag) (limit : ℕ) (limit
       columns = loaded_columns (Known K past) read s loaded
 
       -- it gets no files
-      none_got : {G : List ℕ → List ℕ → Type 0} (fs : List File) → AllGot G (λ a. []) (filter (λ a. false) fs)
-      none_got [] = tt
-      none_got (a ∷ fs) = none_got fs
+      none_got : (G : List ℕ → List ℕ → Type 0) (fs : List File) → AllGot G (λ a. []) (filter (λ a. false) fs)
+      none_got G [] = tt
+      none_got G (a ∷ fs) = none_got G fs
 
       still : (e : JournalEntry) → e.call ≡ PutNew (data_text tag start 0) (text_of_rows rows) → AllLost (e ∷ past)
       still e put = lost_other e past (λ v b other. data_is_no_commit tag start 0 v (let two = same_put _ _ _ _ (sym put ∙ other) in two.0)) (none_lost past fresh.none)
