@@ -1,0 +1,47 @@
+//! Literal rows.
+ghost use Rattle.std.specs.Prelude.{◌≡◌, IfOk};
+ghost use Rattle.std.specs.List.{All};
+ghost use Rattle.row_base.specs.Faults.{Reads};
+ghost use Rattle.row_base.specs.Schema.{FitsSchema};
+ghost use Rattle.statement_checks.specs.Rows.{is_memory, row_in, rows_in};
+
+use crate::RowsFault;
+use row_base::{Datum, Row, Rows, Schema, Unsettled};
+use std::alloc::Global;
+
+/// A row of the same data.
+fn row_of(alloc: Global, data: &[Datum]) -> Result<Row, RowsFault>
+    ensures { Reads is_memory result (Ok data.now) }
+{
+    let mut values = Vec::with_capacity(alloc, data.len())?;
+    for datum in data {
+        values.push(datum.copy()?)?;
+    }
+    Ok(Row::make(values))
+}
+
+/// A row as its columns take it, where that fits.
+fn fitting(alloc: Global, schema: &Schema, row: &[Datum]) -> Result<Row, RowsFault>
+    ensures read { Reads is_memory result (row_in schema.now row.now) }
+    ensures fits { IfOk result (FitsSchema schema.now) }
+{
+    match schema.settle(row_of(alloc, row)?) {
+        Ok(row) => Ok(row),
+        Err(Unsettled { row, fault }) => Err(RowsFault::Row { row, fault }),
+    }
+}
+
+/// Literal rows as a table takes them: each long in a column of integers that fits is an integer. Else the first row
+/// that doesn't fit, as it came, and why.
+#[tactic(auto, unfolding(crate::specs::Rows::rows_in))]
+pub fn literal_rows(alloc: Global, schema: &Schema, rows: &Rows) -> Result<Rows, RowsFault>
+    ensures read { Reads is_memory result (rows_in schema.now rows.now) }
+    ensures fits { IfOk result (All (FitsSchema schema.now)) }
+{
+    let mut taken = Rows::new(alloc);
+    for row in rows.iter() {
+        let mut data = fitting(alloc, schema, row)?.into_vec();
+        taken.push_from(&mut data)?;
+    }
+    Ok(taken)
+}
