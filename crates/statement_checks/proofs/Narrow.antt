@@ -18,17 +18,7 @@ use Rattle.op_types.specs.Bound.{are_sets_bound}
 use Rattle.statement_checks.specs.Names.{once}
 use Rattle.statement_checks.specs.Operations.{set_in, sets_in, exprs_for, exprs_in}
 use Rattle.statement_checks.specs.Plain.{plain_step, is_plain, are_plain}
-
-bind_ok : {A B : Type 0} (r : Result A BindFault) (f : A → Result B BindFault) (y : B) → (r >>= f) ≡ Ok y → (x : A) × (r ≡ Ok x) × (f x ≡ Ok y)
-bind_ok (Ok x) f y e = (x, refl, e)
-bind_ok (Err d) f y e = absurd cc
-
-inside : {A : Type 0} (x y : A) → ◌≡◌ {A = Result A BindFault} (Ok x) (Ok y) → x ≡ y
-inside x y e = cc
-
-both : (x y : Bool) → (x && y) ≡ true → (x ≡ true) × (y ≡ true)
-both true y e = (refl, e)
-both false y e = absurd cc
+use Rattle.statement_checks.proofs.Bound.{bind_ok, inside, both}
 
 together : (x y : Bool) → x ≡ true → y ≡ true → (x && y) ≡ true
 together x y a b = rw (a, b) refl
@@ -42,12 +32,27 @@ module _ (n : ℕ) where
   of_made : (made b : Expr ℕ) → ◌≡◌ {A = Result (Expr ℕ) BindFault} (Ok made) (Ok b) → (is_expr_bound n n made ≡ true → is_expr_bound n 0 made ≡ true) → is_expr_bound n n b ≡ true → is_expr_bound n 0 b ≡ true
   of_made made b e h = subst (λ z. is_expr_bound n n z ≡ true → is_expr_bound n 0 z ≡ true) (inside made b e) h
 
+  cell_bound : (m p : ℕ) → is_expr_bound n m (expr.Cell p) ≡ nat_lt p n
+  cell_bound m p = ap (is_expr_bound n m) (sym (expr.rolls-Cell p)) ∙ fold-roll-Expr ℕ Bool (expr_bound_step n m) (Expr-F.Cell p)
+
+  literal_bound : (m : ℕ) (d : Datum) → is_expr_bound n m (expr.Literal d) ≡ true
+  literal_bound m d = ap (is_expr_bound n m) (sym (expr.rolls-Literal d)) ∙ fold-roll-Expr ℕ Bool (expr_bound_step n m) (Expr-F.Literal d)
+
+  plus_bound : (m : ℕ) (a c : Expr ℕ) → is_expr_bound n m (expr.Plus a c) ≡ (is_expr_bound n m a && is_expr_bound n m c)
+  plus_bound m a c = ap (is_expr_bound n m) (sym (expr.rolls-Plus a c)) ∙ fold-roll-Expr ℕ Bool (expr_bound_step n m) (Expr-F.Plus a c)
+
+  minus_bound : (m : ℕ) (a c : Expr ℕ) → is_expr_bound n m (expr.Minus a c) ≡ (is_expr_bound n m a && is_expr_bound n m c)
+  minus_bound m a c = ap (is_expr_bound n m) (sym (expr.rolls-Minus a c)) ∙ fold-roll-Expr ℕ Bool (expr_bound_step n m) (Expr-F.Minus a c)
+
+  times_bound : (m : ℕ) (a c : Expr ℕ) → is_expr_bound n m (expr.Times a c) ≡ (is_expr_bound n m a && is_expr_bound n m c)
+  times_bound m a c = ap (is_expr_bound n m) (sym (expr.rolls-Times a c)) ∙ fold-roll-Expr ℕ Bool (expr_bound_step n m) (Expr-F.Times a c)
+
   cell : (r : Result ℕ BindFault) → IsNarrow (r >>= λ p. Ok (expr.Cell p)) true
-  cell (Ok p) b e plain wide = of_made (expr.Cell p) b e (λ w. w) wide
+  cell (Ok p) b e plain wide = of_made (expr.Cell p) b e (λ w. cell_bound 0 p ∙ sym (cell_bound n p) ∙ w) wide
   cell (Err f) b e plain wide = absurd cc
 
   literal : (r : Result Datum BindFault) → IsNarrow (r >>= λ d. Ok (expr.Literal d)) true
-  literal (Ok d) b e plain wide = of_made (expr.Literal d) b e (λ w. w) wide
+  literal (Ok d) b e plain wide = of_made (expr.Literal d) b e (λ w. literal_bound 0 d) wide
   literal (Err f) b e plain wide = absurd cc
 
   sides : (make : Expr ℕ → Expr ℕ → Expr ℕ)
@@ -78,13 +83,13 @@ module _ (n : ℕ) where
     layer tree known (Expr-F.Literal d) = rolled (Expr-F.Literal d) (literal (literal_as k d name))
     layer tree known (Expr-F.Plus l r) =
         rolled (Expr-F.Plus (tree l) (tree r))
-        (sides expr.Plus (λ m a c. refl) (bound_expr_in columns k name (tree l)) (number_kind k name) (bound_expr_in columns k name (tree r)) (is_plain (tree l)) (is_plain (tree r)) (known l) (known r))
+        (sides expr.Plus (plus_bound) (bound_expr_in columns k name (tree l)) (number_kind k name) (bound_expr_in columns k name (tree r)) (is_plain (tree l)) (is_plain (tree r)) (known l) (known r))
     layer tree known (Expr-F.Minus l r) =
         rolled (Expr-F.Minus (tree l) (tree r))
-        (sides expr.Minus (λ m a c. refl) (bound_expr_in columns k name (tree l)) (number_kind k name) (bound_expr_in columns k name (tree r)) (is_plain (tree l)) (is_plain (tree r)) (known l) (known r))
+        (sides expr.Minus (minus_bound) (bound_expr_in columns k name (tree l)) (number_kind k name) (bound_expr_in columns k name (tree r)) (is_plain (tree l)) (is_plain (tree r)) (known l) (known r))
     layer tree known (Expr-F.Times l r) =
         rolled (Expr-F.Times (tree l) (tree r))
-        (sides expr.Times (λ m a c. refl) (bound_expr_in columns k name (tree l)) (number_kind k name) (bound_expr_in columns k name (tree r)) (is_plain (tree l)) (is_plain (tree r)) (known l) (known r))
+        (sides expr.Times (times_bound) (bound_expr_in columns k name (tree l)) (number_kind k name) (bound_expr_in columns k name (tree r)) (is_plain (tree l)) (is_plain (tree r)) (known l) (known r))
 
     plain_narrow : (e : Expr (List ℕ)) → IsPlainNarrow e
     plain_narrow =

@@ -1,9 +1,10 @@
 -- The properties that statements set.
-use Rattle.std.specs.Prelude.{◌==◌, ℕ, ◌&&◌, ◌||◌, not, is_some, Bool, true, List, [], ◌∷◌, Result, Ok, Err, if◌then◌else◌, codes}
+use Rattle.std.specs.Prelude.{◌≡◌, ◌==◌, ℕ, ◌&&◌, ◌||◌, not, is_some, Bool, true, List, [], ◌∷◌, Result, Ok, Err, if◌then◌else◌, codes}
 use Rattle.std.specs.List.{starts_with}
 use Rattle.std.specs.Str.{bytes_eq}
 use Rattle.row_base.specs.Faults.{◌>>=◌}
 use Rattle.table_rules.specs.Intervals.{interval_in}
+use Rattle.table_rules.specs.Properties as rules
 use Rattle.table_rules.specs.Properties.{append_only_in, checkpoint_interval_in, level_in}
 use Rattle.predicates.specs.declared.fault.BindFault.{BindFault}
 use Rattle.predicates.specs.declared.fault.BindFault.TheVariants as fault
@@ -44,3 +45,7 @@ abbrev pub setting_in : List ℕ → List ℕ → Result (Unit {0}) BindFault
 setting_in key value =
     if is_fixed key then Err (fault.Fixed key)
     else (if takes key value then Ok tt else Err (fault.Property key))
+
+-- a value that a statement may set is one that a table is read with
+abbrev pub ValuesAreRead : Type 0
+ValuesAreRead = (key value : List ℕ) → takes key value ≡ true → rules.takes key value ≡ true

@@ -1,5 +1,5 @@
 //! The columns that a statement names.
-ghost use Rattle.std.specs.Prelude.{◌≡◌, ◌==◌, ◌<◌, [], true, false, length, nat_lt, IfOk, IfSome};
+ghost use Rattle.std.specs.Prelude.{◌≡◌, ◌==◌, ◌<◌, [], true, length, nat_lt, IfOk, IfSome};
 ghost use Rattle.std.specs.List.{list_all, list_any};
 ghost use Rattle.row_base.specs.Faults.{Reads};
 ghost use Rattle.predicates.specs.Binding.{is_memory, place_in, found_in};
@@ -52,7 +52,6 @@ pub(crate) fn new_place(columns: &[Column], before: &[u32], name: &Text) -> Resu
     requires { length columns.now < 65 }
     ensures read { Reads is_memory result (new_place_in columns.now before.now name.now) }
     ensures within { IfOk result (λ p. p < length columns.now) }
-    ensures fresh { IfOk result (λ p. list_any (λ b. b == p) before.now ≡ false) }
 {
     let (place, _) = found(columns, name)?;
     once(is_among(before, place), name)?;

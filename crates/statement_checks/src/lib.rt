@@ -4,6 +4,7 @@
 
 mod column;
 mod fault;
+mod laws;
 mod merge;
 mod operation;
 mod plain;
@@ -13,6 +14,7 @@ mod sets;
 mod table;
 
 pub use fault::RowsFault;
+pub use laws::set_values_are_read;
 pub use merge::bound_merge;
 pub use operation::{bound_delete, bound_insert_select, bound_update};
 pub use property::{check_properties, check_setting};

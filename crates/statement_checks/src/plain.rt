@@ -11,7 +11,6 @@ use std::alloc::Global;
 
 /// The expression over the places of a schema's columns for the column of this kind and name, or the first fault from
 /// the left. Where it has no cell of a source row, it needs none.
-#[tactic(auto, using(crate::proofs::Narrow::plain_needs_none))]
 pub(crate) fn bound_expr(
     alloc: Global,
     schema: &Schema,

@@ -4,7 +4,8 @@ ghost use Rattle.std.specs.List.{starts_with};
 ghost use Rattle.std.specs.Str.{bytes_eq};
 ghost use Rattle.row_base.specs.Faults.{Reads};
 ghost use Rattle.predicates.specs.Binding.{is_memory};
-ghost use Rattle.table_rules.specs.Properties.{append_only_in, checkpoint_interval_in, level_in};
+ghost use Rattle.table_rules.specs.Intervals.{interval_in};
+ghost use Rattle.table_rules.specs.Properties.{checkpoint_interval_in, level_in};
 ghost use Rattle.statement_checks.specs.Properties.{property_in, properties_in, setting_in};
 
 use op_types::Property;
@@ -32,7 +33,7 @@ fn is_checkpoint_interval(value: &str) -> bool
 }
 
 fn is_interval(value: &Text) -> bool
-    ensures { result ≡ is_some (Rattle.table_rules.specs.Intervals.interval_in value.now) }
+    ensures { result ≡ is_some (interval_in value.now) }
 {
     read_interval(value).is_some()
 }

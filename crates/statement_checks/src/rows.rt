@@ -1,5 +1,5 @@
 //! Literal rows.
-ghost use Rattle.std.specs.Prelude.{◌≡◌, IfOk};
+ghost use Rattle.std.specs.Prelude.{◌≡◌, Ok, IfOk};
 ghost use Rattle.std.specs.List.{All};
 ghost use Rattle.row_base.specs.Faults.{Reads};
 ghost use Rattle.row_base.specs.Schema.{FitsSchema};
@@ -10,11 +10,11 @@ use row_base::{Datum, Row, Rows, Schema, Unsettled};
 use std::alloc::Global;
 
 /// A row of the same data.
-fn row_of(alloc: Global, data: &[Datum]) -> Result<Row, RowsFault>
-    ensures { Reads is_memory result (Ok data.now) }
+fn row_of(alloc: Global, row: &[Datum]) -> Result<Row, RowsFault>
+    ensures { Reads is_memory result (Ok row.now) }
 {
-    let mut values = Vec::with_capacity(alloc, data.len())?;
-    for datum in data {
+    let mut values = Vec::with_capacity(alloc, row.len())?;
+    for datum in row {
         values.push(datum.copy()?)?;
     }
     Ok(Row::make(values))
@@ -33,7 +33,7 @@ fn fitting(alloc: Global, schema: &Schema, row: &[Datum]) -> Result<Row, RowsFau
 
 /// Literal rows as a table takes them: each long in a column of integers that fits is an integer. Else the first row
 /// that doesn't fit, as it came, and why.
-#[tactic(auto, unfolding(crate::specs::Rows::rows_in))]
+#[tactic(auto, unfolding(crate::specs::Rows::rows_in), using(crate::proofs::Fitting::one_more_fits))]
 pub fn literal_rows(alloc: Global, schema: &Schema, rows: &Rows) -> Result<Rows, RowsFault>
     ensures read { Reads is_memory result (rows_in schema.now rows.now) }
     ensures fits { IfOk result (All (FitsSchema schema.now)) }

@@ -12,7 +12,7 @@ use crate::column::{found, once};
 use crate::plain::bound_expr;
 use op_types::SetTo;
 use predicates::{BindFault, Expr};
-use row_base::{Items, Schema, Text};
+use row_base::{Column, Items, Schema, Text};
 use std::alloc::Global;
 
 /// Whether the column at this place is set.
@@ -58,7 +58,6 @@ fn each_set(
 }
 
 /// Sets over places. Where no expression has a cell of a source row, they need none.
-#[tactic(auto, using(crate::proofs::Narrow::plain_sets_need_none))]
 pub(crate) fn bound_sets(
     alloc: Global,
     schema: &Schema,
@@ -72,18 +71,18 @@ pub(crate) fn bound_sets(
     Ok(bound)
 }
 
-/// An expression for each column, of which there are as many.
+/// An expression for each of these columns, of which there are as many.
 #[tactic(auto, unfolding(crate::specs::Operations::exprs_for))]
 fn each_expr(
     alloc: Global,
     schema: &Schema,
+    columns: &[Column],
     exprs: &[Expr<Text>],
 ) -> Result<Items<Expr<u32>>, BindFault>
-    requires { length exprs.now ≡ length schema.now.columns }
-    ensures read { Reads is_memory result (exprs_for schema.now.columns schema.now.columns exprs.now) }
+    requires { length exprs.now ≡ length columns.now }
+    ensures read { Reads is_memory result (exprs_for schema.now.columns columns.now exprs.now) }
     ensures bound { IfOk result (λ bs. list_all (is_expr_bound (length schema.now.columns) (length schema.now.columns)) bs ≡ true) }
 {
-    let columns = schema.columns();
     let mut bound = Vec::with_capacity(alloc, columns.len())?;
     for i in 0..columns.len() {
         let column = &columns[i];
@@ -92,8 +91,22 @@ fn each_expr(
     Ok(Items::from_vec(bound))
 }
 
-/// An expression for each column. Where none has a cell of a source row, they need none.
-#[tactic(auto, using(crate::proofs::Narrow::plain_exprs_need_none))]
+/// The same. Where none has a cell of a source row, they need none.
+fn narrow_exprs(
+    alloc: Global,
+    schema: &Schema,
+    columns: &[Column],
+    exprs: &[Expr<Text>],
+) -> Result<Items<Expr<u32>>, BindFault>
+    requires { length exprs.now ≡ length columns.now }
+    ensures read { Reads is_memory result (exprs_for schema.now.columns columns.now exprs.now) }
+    ensures plain { list_all is_plain exprs.now ≡ true → IfOk result (λ bs. list_all (is_expr_bound (length schema.now.columns) 0) bs ≡ true) }
+{
+    let bound = each_expr(alloc, schema, columns, exprs)?;
+    Ok(bound)
+}
+
+/// An expression for each column of a schema. Where none has a cell of a source row, they need none.
 pub(crate) fn bound_exprs(
     alloc: Global,
     schema: &Schema,
@@ -102,9 +115,9 @@ pub(crate) fn bound_exprs(
     ensures read { Reads is_memory result (exprs_in schema.now.columns exprs.now) }
     ensures plain { list_all is_plain exprs.now ≡ true → IfOk result (λ bs. list_all (is_expr_bound (length schema.now.columns) 0) bs ≡ true) }
 {
-    if exprs.len() == schema.columns().len() {
-        let bound = each_expr(alloc, schema, exprs)?;
-        Ok(bound)
+    let columns = schema.columns();
+    if exprs.len() == columns.len() {
+        narrow_exprs(alloc, schema, columns, exprs)
     } else {
         Err(BindFault::Count)
     }

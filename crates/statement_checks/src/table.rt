@@ -1,5 +1,6 @@
 //! Tables that are made.
-ghost use Rattle.std.specs.Prelude.{◌≡◌, ◌<◌, [], false, None, length, IfOk, OnOk};
+ghost use Rattle.std.specs.Prelude.{◌≡◌, ◌<◌, [], true, nat_lt, None, length, IfOk, OnOk};
+ghost use Rattle.std.specs.List.{list_all};
 ghost use Rattle.row_base.specs.Faults.{Reads};
 ghost use Rattle.row_base.specs.Schema.{first_after, is_wrong_place, is_named, schema_fault};
 ghost use Rattle.predicates.specs.Binding.{is_memory};
@@ -50,7 +51,7 @@ fn check_columns(columns: &[Column]) -> Result<(), BindFault>
 fn partition_place(columns: &[Column], before: &[u32], name: &Text) -> Result<u32, BindFault>
     requires { length columns.now < 65 }
     ensures read { Reads is_memory result (partition_place_in columns.now before.now name.now) }
-    ensures right { IfOk result (λ p. is_wrong_place (length columns.now) before.now p ≡ false) }
+    ensures within { IfOk result (λ p. p < length columns.now) }
 {
     let place = new_place(columns, before, name)?;
     if before.len() + 1 == columns.len() {
@@ -60,7 +61,22 @@ fn partition_place(columns: &[Column], before: &[u32], name: &Text) -> Result<u3
 }
 
 /// The places of partition columns.
-#[tactic(auto, unfolding(crate::specs::Tables::partition_in), using(crate::proofs::Partitions::one_more_right))]
+#[tactic(auto, unfolding(crate::specs::Tables::partition_in))]
+fn each_place(alloc: Global, columns: &[Column], names: &[Text]) -> Result<Items<u32>, BindFault>
+    requires { length columns.now < 65 }
+    ensures read { Reads is_memory result (partition_in columns.now [] names.now) }
+    ensures within { IfOk result (λ ps. list_all (λ p. nat_lt p (length columns.now)) ps ≡ true) }
+{
+    let mut places = Vec::with_capacity(alloc, names.len())?;
+    for name in names {
+        let place = partition_place(columns, places.as_slice(), name)?;
+        places.push(place)?;
+    }
+    Ok(Items::from_vec(places))
+}
+
+/// The same; none of them is wrong.
+#[tactic(auto, using(crate::proofs::Partitions::places_right))]
 fn partition_places(
     alloc: Global,
     columns: &[Column],
@@ -70,12 +86,8 @@ fn partition_places(
     ensures read { Reads is_memory result (partition_in columns.now [] names.now) }
     ensures right { IfOk result (λ ps. first_after (is_wrong_place (length columns.now)) [] ps ≡ None) }
 {
-    let mut places = Vec::with_capacity(alloc, names.len())?;
-    for name in names {
-        let place = partition_place(columns, places.as_slice(), name)?;
-        places.push(place)?;
-    }
-    Ok(Items::from_vec(places))
+    let places = each_place(alloc, columns, names)?;
+    Ok(places)
 }
 
 /// The schema of columns and places that make one.

@@ -8,5 +8,5 @@ use Rattle.statement_checks.proofs.sets.each_expr.Given as goal
 
 abbrev pub invariant-loop-i : goal.invariant-loop-i
 invariant-loop-i l =
-    ((exprs_for l.columns (drop l.i l.columns) (drop l.i l.exprs) >>= λ bs. Ok (l.bound.items ++ bs)) ≡ exprs_for l.columns l.columns l.exprs)
-    × (list_all (is_expr_bound (length l.columns) (length l.columns)) l.bound.items ≡ true)
+    ((exprs_for l.schema.columns (drop l.i l.columns) (drop l.i l.exprs) >>= λ bs. Ok (l.bound.items ++ bs)) ≡ exprs_for l.schema.columns l.columns l.exprs)
+    × (list_all (is_expr_bound (length l.schema.columns) (length l.schema.columns)) l.bound.items ≡ true)
