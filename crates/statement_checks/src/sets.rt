@@ -5,7 +5,7 @@ ghost use Rattle.row_base.specs.Faults.{Reads};
 ghost use Rattle.predicates.specs.Values.{is_expr_bound};
 ghost use Rattle.predicates.specs.Binding.{is_memory};
 ghost use Rattle.op_types.specs.Bound.{are_sets_bound};
-ghost use Rattle.statement_checks.specs.Operations.{set_in, sets_in, exprs_for, exprs_in};
+ghost use Rattle.statement_checks.specs.Operations.{expr_in, set_in, sets_in, exprs_for, exprs_in};
 ghost use Rattle.statement_checks.specs.Plain.{is_plain, are_plain};
 
 use crate::column::{found, once};
@@ -71,6 +71,20 @@ pub(crate) fn bound_sets(
     Ok(bound)
 }
 
+/// An expression for a column.
+#[tactic(auto, unfolding(crate::specs::Operations::expr_in))]
+fn expr_for(
+    alloc: Global,
+    schema: &Schema,
+    column: &Column,
+    expr: &Expr<Text>,
+) -> Result<Expr<u32>, BindFault>
+    ensures read { Reads is_memory result (expr_in schema.now.columns column.now expr.now) }
+    ensures bound { IfOk result (λ e. is_expr_bound (length schema.now.columns) (length schema.now.columns) e ≡ true) }
+{
+    bound_expr(alloc, schema, expr, column.kind, &column.name)
+}
+
 /// An expression for each of these columns, of which there are as many.
 #[tactic(auto, unfolding(crate::specs::Operations::exprs_for))]
 fn each_expr(
@@ -85,8 +99,7 @@ fn each_expr(
 {
     let mut bound = Vec::with_capacity(alloc, columns.len())?;
     for i in 0..columns.len() {
-        let column = &columns[i];
-        bound.push(bound_expr(alloc, schema, &exprs[i], column.kind, &column.name)?)?;
+        bound.push(expr_for(alloc, schema, &columns[i], &exprs[i])?)?;
     }
     Ok(Items::from_vec(bound))
 }
