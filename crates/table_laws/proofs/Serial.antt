@@ -42,7 +42,7 @@ use Rattle.table_laws.proofs.Known.{loaded_more, knows_more, scanned_more}
 use Rattle.table_laws.proofs.Tries.{put_in_order, put_under-front}
 use Rattle.table_laws.proofs.Names.{same_file}
 use Rattle.table_laws.proofs.Shown.{InPut, Sure, backwards, given_is, own_got, put_of_body, some_same}
-use Rattle.table_laws.proofs.Journals.{Stands, Committed, no_later}
+use Rattle.table_laws.proofs.Standing.{Stands, Committed, no_later}
 use Rattle.table_laws.proofs.Effects.{file_is, commit_is, said_is, loaded_files, loaded_meta, same_written, same_effect, same_judge}
 use Rattle.table_laws.proofs.Readings.{some_put, some_of_body, is_some, none_more, empty_first, same_commit, same_path, first_added, added_is, scanned_rows, scanned_long, length-paths, length-files, first_loaded, lines_read}
 
