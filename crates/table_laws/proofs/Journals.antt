@@ -1,7 +1,7 @@
 -- From entry to entry of a journal: each lawful entry keeps what stands (call_step), so all of it stands at the end (whole).
 -- Ends and Moments cite whole and call_step.
 -- No other file matches on a call's answer.
-use Rattle.std.proofs.Common.{◌≡◌, ℕ, suc, ◌+◌, Bool, true, false, List, [], ◌∷◌, ◌++◌, refl, sym, ◌∙◌, ap, subst, arith}
+use Rattle.std.proofs.Common.{◌≡◌, ℕ, suc, Bool, true, false, List, [], ◌∷◌, ◌++◌, refl, sym, ◌∙◌, ap, subst}
 use Rattle.std.proofs.lemmas.List.{append-nil, append_assoc}
 use Rattle.std.specs.Prelude.{Option, Some, None}
 use Rattle.std.specs.Str.{bytes_eq}
@@ -20,7 +20,6 @@ use Rattle.table_rules.specs.Names.{commit_text}
 use Rattle.table_rules.specs.Told.{IsTag}
 use Rattle.call_phases.specs.Phases.{Entries}
 use Rattle.actor_core.specs.Entries.{own}
-use Rattle.table_laws.proofs.CommitEffects as effects
 use Rattle.table_laws.specs.History.{Put, put_under, put_if_free, puts_of, if_done, puts_at, history}
 use Rattle.table_laws.specs.Runs.{version_put}
 use Rattle.table_laws.proofs.Lawful.{MayPut, LawfulBy}

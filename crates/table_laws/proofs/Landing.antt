@@ -11,7 +11,7 @@ use Rattle.edge_api.specs.declared.call.Answer.{Answer}
 use Rattle.edge_api.specs.declared.call.Answer.TheVariants.{Taken}
 use Rattle.edge_api.specs.declared.call.JournalEntry.{JournalEntry}
 use Rattle.edge_api.specs.declared.call.Object.{Object}
-use Rattle.edge_api.specs.Journal.{Objects, effect_of, object_at, with_object}
+use Rattle.edge_api.specs.Journal.{Objects, object_at, with_object}
 use Rattle.op_types.specs.declared.statement.Statement.{Statement}
 use Rattle.op_types.specs.declared.reply.Reply.{Reply}
 use Rattle.table_rules.specs.Names.{commit_text, data_text}

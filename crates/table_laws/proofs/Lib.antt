@@ -28,4 +28,5 @@ pub mod Moments
 pub mod Created
 pub mod Views
 pub mod OneSession
+pub mod ViewsMean
 pub mod Run

@@ -1,8 +1,8 @@
 -- Versions of one session: each statement reads the version that the one before it committed, so no operation misses a row.
 -- It stands on what a statement sees (Views) alone, and on Step for what each version read.
 -- Run cites rows_of_session.
-use Rattle.std.proofs.Common.{◌≡◌, ◌⊎◌, inl, inr, ℕ, zero, suc, ◌≤◌, ◌<◌, ◌^◌, Bool, true, false, List, [], refl, sym, ◌∙◌, ap, subst, arith}
-use Rattle.std.specs.Prelude.{Option, Some, None, nat_lt}
+use Rattle.std.proofs.Common.{◌≡◌, inl, ℕ, zero, suc, ◌≤◌, ◌<◌, ◌^◌, Bool, true, false, List, [], refl, sym, ◌∙◌, subst, arith}
+use Rattle.std.specs.Prelude.{Option, Some, nat_lt}
 use Rattle.std.proofs.lemmas.Bool.Decides.{nat_tests}
 use Rattle.edge_api.specs.declared.call.Tag.{Tag}
 use Rattle.edge_api.specs.Journal.{Moment, IsLegal, entries_of}
@@ -13,9 +13,8 @@ use Rattle.statement_calls.specs.declared.finish.Finish.{Finish}
 use Rattle.actor_core.specs.Entries.{own}
 use Rattle.table_laws.specs.History.{Put, history, put_under, IsCommitted}
 use Rattle.table_laws.specs.Runs.{version_read, IsRun}
-use Rattle.table_laws.specs.Laws.{Step}
 use Rattle.table_laws.specs.Folded.{NoneMisses}
-use Rattle.table_laws.specs.Views.{IsLater, IsOfSession, RowsOfOneSession}
+use Rattle.table_laws.specs.Views.{IsOfSession, RowsOfOneSession}
 use Rattle.table_laws.proofs.Shown.{some_same}
 use Rattle.table_laws.proofs.Readings.{some_put, is_some}
 use Rattle.table_laws.proofs.Ends.{serial_at, folded_at, once_at}

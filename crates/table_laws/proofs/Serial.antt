@@ -10,14 +10,12 @@ use Rattle.row_base.specs.Sorting.{Sorts}
 use Rattle.row_base.specs.Bags.{count_of, SameRows}
 use Rattle.row_base.specs.Schema.{TableSchema}
 use Rattle.op_types.specs.declared.statement.Statement.{Statement}
-use Rattle.op_types.specs.declared.statement.Statement.TheVariants.{Table}
-use Rattle.op_types.specs.declared.statement.TableSpec.{TableSpec}
 use Rattle.op_types.specs.declared.reply.Reply.{Reply}
 use Rattle.table_rules.specs.Names.{commit_text, data_text}
 use Rattle.table_rules.specs.Told.{IsTag}
 use Rattle.line_texts.specs.Texts.{columns_of_text}
 use Rattle.line_texts.proofs.Laws.{columns_read_back}
-use Rattle.snapshot_replay.specs.Table.{Snapshot, table_commit}
+use Rattle.snapshot_replay.specs.Table.{table_commit}
 use Rattle.snapshot_replay.specs.Table.{Commit as LogCommit, paths_of as said_paths}
 use Rattle.call_phases.specs.Phases.{Entries}
 use Rattle.statement_calls.specs.Texts.{read_commit, read_file}

@@ -9,7 +9,7 @@ use Rattle.edge_api.specs.declared.call.Call.TheVariants.{Get, PutNew}
 use Rattle.edge_api.specs.declared.call.Answer.{Answer}
 use Rattle.edge_api.specs.declared.call.Answer.TheVariants.{Body, Missing, Stored}
 use Rattle.edge_api.specs.declared.call.JournalEntry.{JournalEntry}
-use Rattle.edge_api.specs.Journal.{Objects, same_tag, effect_of, object_at}
+use Rattle.edge_api.specs.Journal.{Objects, same_tag, object_at}
 use Rattle.op_types.specs.declared.statement.Statement.{Statement}
 use Rattle.op_types.specs.declared.statement.Statement.TheVariants.{Table}
 use Rattle.op_types.specs.declared.statement.TableSpec.{TableSpec}

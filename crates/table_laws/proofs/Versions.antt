@@ -1,19 +1,15 @@
 -- The versions whose commits a statement's entries put, entry by entry.
 -- Statements and Landing go by them at each put; what a whole statement put stands in Tries.
 -- No other file reads the name of a put.
-use Rattle.std.proofs.Common.{◌≡◌, inl, inr, ℕ, ◌<◌, ◌^◌, List, [], ◌∷◌, refl, ◌∙◌, ap, arith}
+use Rattle.std.proofs.Common.{◌≡◌, inl, inr, ℕ, ◌<◌, ◌^◌, List, [], ◌∷◌, refl, ◌∙◌, ap}
 use Rattle.std.specs.Prelude.{Option, Some, None}
-use Rattle.std.proofs.lemmas.Bool.Decides.{nat_tests}
 use Rattle.edge_api.specs.declared.call.Tag.{Tag}
 use Rattle.edge_api.specs.declared.call.Call.{Call}
 use Rattle.edge_api.specs.declared.call.Call.TheVariants.{Get, PutNew, Put as Replace, List as ListNames, Delete, Now, Wait}
 use Rattle.edge_api.specs.declared.call.JournalEntry.{JournalEntry}
-use Rattle.op_types.specs.declared.refusal.Refusal.TheVariants as refusal
 use Rattle.table_rules.specs.Names.{commit_text, data_text}
 use Rattle.table_rules.proofs.Names.{commit_is_read, data_is_outside}
 use Rattle.call_phases.specs.Phases.{Entries}
-use Rattle.committer.specs.declared.judge.Verdict.TheVariants as verdict
-use Rattle.statement_calls.specs.declared.statement.TableStatement.TheVariants as over
 use Rattle.statement_calls.specs.Listing.{commit_of}
 use Rattle.table_laws.specs.Runs.{version_put, with_version, versions_put}
 use Rattle.table_laws.proofs.Lawful.{NoPut}

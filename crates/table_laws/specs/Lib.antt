@@ -5,5 +5,6 @@ pub mod Runs
 pub mod Laws
 pub mod Folded
 pub mod Views
+pub mod ViewsMean
 pub mod Refused
 pub mod Lawful
