@@ -20,7 +20,7 @@ use Rattle.table_laws.specs.Refused.{FaultedIn}
 use Rattle.table_laws.specs.Laws.{HasCreated, RepliesCreated}
 use Rattle.table_laws.proofs.Lawful.{ClaimsCreated}
 use Rattle.table_laws.proofs.Shown.{backwards, own_got, put_of_body, some_same}
-use Rattle.table_laws.proofs.Journals.{Stands}
+use Rattle.table_laws.proofs.Standing.{Stands}
 use Rattle.table_laws.proofs.Tries.{put_turned}
 use Rattle.table_laws.proofs.Refused.{put_faulted}
 use Rattle.table_laws.proofs.Ends.{run_end, claims}

@@ -1,5 +1,5 @@
 -- What a commit says and what a statement loaded, in the terms of what was put.
-use Rattle.std.proofs.Common.{◌≡◌, ℕ, zero, suc, Bool, true, false, not, List, [], ◌∷◌, ◌++◌, map, refl, sym, ◌∙◌, ap, subst}
+use Rattle.std.proofs.Common.{◌≡◌, ℕ, zero, suc, Bool, true, false, not, List, [], ◌∷◌, map, refl, sym, ◌∙◌, ap}
 use Rattle.std.specs.Prelude.{Option, Some, None, if◌then◌else◌, option_map, option_and_then}
 use Rattle.std.specs.Str.{bytes_eq}
 use Rattle.std.specs.Ordering.{is_lt, nat_cmp}
@@ -11,13 +11,13 @@ use Rattle.line_texts.specs.Texts.{columns_of_text}
 use Rattle.snapshot_replay.specs.Table as log
 use Rattle.statement_calls.specs.Texts.{read_commit, read_file}
 use Rattle.table_changes.specs.Rows.{Row}
-use Rattle.table_changes.specs.Table.{File, FileLine, Meta, Commit, newer, reconciled, without_path, placed, lines_of}
+use Rattle.table_changes.specs.Table.{File, Meta, Commit, newer, reconciled, without_path, placed, lines_of}
 use Rattle.table_changes.specs.Conflicts.{Reads, is_literal, first_clash}
-use Rattle.table_changes.specs.Operations.{Operation, IsSound, Agree, got_files, taken_files, reads_of}
+use Rattle.table_changes.specs.Operations.{Operation, IsSound, Agree, got_files}
 use Rattle.table_changes.proofs.Folded.{each_verdict_is_local}
 use Rattle.table_laws.specs.Commits.{file_of, line_of, meta_of, changes_of, files_in, meta_in}
 use Rattle.table_laws.specs.Operations.{Scope, passes, may}
-use Rattle.table_laws.specs.History.{Put, put_under, body_of, or_none, or_nothing, commit_at, live_at, meta_at, rows_of}
+use Rattle.table_laws.specs.History.{Put, or_none, or_nothing, commit_at, live_at, meta_at, rows_of}
 use Rattle.table_laws.proofs.CommitEffects.{new_file, effect_of, Says, level_in, judge_of}
 use Rattle.table_laws.proofs.Sessions.{LoadedTo}
 use Rattle.table_laws.proofs.Lawful.{AllGot}

@@ -15,13 +15,15 @@ use Rattle.table_laws.specs.History.{body_of, schema_at, rows_of, history}
 use Rattle.table_laws.specs.Runs.{kept_in, kept_at, kept_before, replies_of, BeginsWith, IsAnsweredPart, IsRun}
 use Rattle.table_laws.specs.Laws.{VersionsAreSerial, FirstIsEmpty, FirstMakesTable, CommitsOnce, CommitsRead, FilesRead, CommitsLand, RepliesCommitted, RepliesRead}
 use Rattle.table_laws.specs.Folded.{RowsAreFolded}
+use Rattle.table_laws.specs.Views.{NamesPutOnce}
 use Rattle.table_laws.proofs.Sessions.{SessionKnows, KnownKept}
 use Rattle.table_laws.proofs.Lawful.{ClaimOf}
 use Rattle.table_laws.proofs.Known.{kept_more}
 use Rattle.table_laws.proofs.Statements.{answered_lawful}
 use Rattle.table_laws.proofs.Kept.{answered_known}
 use Rattle.table_laws.proofs.Shown.{InPut, own_got, got_at, stored_at}
-use Rattle.table_laws.proofs.Journals.{End, Keeps, KeepsPart, nothing_stands, whole}
+use Rattle.table_laws.proofs.Standing.{Keeps, KeepsPart, nothing_stands}
+use Rattle.table_laws.proofs.Journals.{End, whole}
 use Rattle.table_laws.proofs.Readings.{empty_first}
 use Rattle.table_laws.proofs.Serial.{makes_table, commits_read, files_read, step, lands, has_committed, has_read, once}
 use Rattle.table_laws.proofs.Folded.{rows_folded}
@@ -86,6 +88,9 @@ module _ (limit : ℕ) (script : Tag → Option Statement) (outcomes : Tag → O
   folded_at v small is none =
       let e = run_end limit script outcomes moments legal run in
       rows_folded (SessionKnows (entries_of moments)) script (replies_of outcomes) run.tags e.past e.os (history [] moments) e.stands (known_at limit script outcomes moments legal run e) (entries_of moments) e.is v small is none
+
+  pub names_at : NamesPutOnce moments
+  names_at = ((run_end limit script outcomes moments legal run).stands).names
 
   pub once_at : CommitsOnce moments
   once_at v w p q small also is there same =

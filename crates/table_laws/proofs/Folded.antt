@@ -18,7 +18,7 @@ use Rattle.table_laws.specs.History.{Put, commit_at, rows_of, rows_at, IsCommitt
 use Rattle.table_laws.specs.Laws.{operation_at, appended}
 use Rattle.table_laws.specs.Folded.{done_by, folded, NoneMisses}
 use Rattle.table_laws.proofs.Shown.{InPut, backwards}
-use Rattle.table_laws.proofs.Journals.{Stands}
+use Rattle.table_laws.proofs.Standing.{Stands}
 use Rattle.table_laws.proofs.Readings.{empty_first}
 use Rattle.table_laws.proofs.Serial.{facts, is_appended, op_is, read_is, widen_is}
 

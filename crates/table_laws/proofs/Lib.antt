@@ -7,12 +7,16 @@ pub mod Loads
 pub mod Phases
 pub mod Paths
 pub mod Texts
+pub mod Versions
 pub mod Statements
 pub mod Kept
 pub mod Names
 pub mod Puts
 pub mod Shown
+pub mod Standing
+pub mod Landing
 pub mod Journals
+pub mod Listings
 pub mod Effects
 pub mod Tries
 pub mod Readings
@@ -22,4 +26,7 @@ pub mod Folded
 pub mod Refused
 pub mod Moments
 pub mod Created
+pub mod Views
+pub mod OneSession
+pub mod ViewsMean
 pub mod Run

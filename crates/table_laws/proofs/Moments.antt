@@ -24,7 +24,8 @@ use Rattle.table_laws.proofs.Lawful.{MayPut, LawfulBy}
 use Rattle.table_laws.proofs.Puts.{body_at}
 use Rattle.table_laws.proofs.Tries.{put_under-behind}
 use Rattle.table_laws.proofs.Shown.{put_of_body}
-use Rattle.table_laws.proofs.Journals.{Stands, Keeps, nothing_stands, lawful_next, keeps_rest, call_step, not_own}
+use Rattle.table_laws.proofs.Standing.{Stands, Keeps, nothing_stands, lawful_next, keeps_rest, not_own}
+use Rattle.table_laws.proofs.Journals.{call_step}
 use Rattle.table_laws.proofs.Ends.{keeps_answered}
 
 module _ (K : Tag → List ℕ → List ℕ → Type 0) (script : Tag → Option Statement) (replies : Tag → Option Reply) (tags : (tag : Tag) (statement : Statement) → script tag ≡ Some statement → IsTag tag) where
@@ -38,7 +39,7 @@ module _ (K : Tag → List ℕ → List ℕ → Type 0) (script : Tag → Option
     pub keeps : Keeps K script replies tags past (entries_of rest)
     pub whole : history first (before ++ rest) ≡ history first before ++ history os rest
 
-  stands_at : (before rest : List Moment) (past : Entries) (os : Objects) (ps : List Put) (clock : ℕ) → Stands K script replies tags past os ps → IsLegal os clock (before ++ rest)
+  pub stands_at : (before rest : List Moment) (past : Entries) (os : Objects) (ps : List Put) (clock : ℕ) → Stands K script replies tags past os ps → IsLegal os clock (before ++ rest)
       → Keeps K script replies tags past (entries_of (before ++ rest)) → StandsAt os ps before rest
   stands_at [] rest past os ps clock s legal keeps =
       record { past = past; os = os; clock = clock; stands = subst (Stands K script replies tags past os) (sym (append-nil ps)) s; legal = legal; keeps = keeps; whole = refl }

@@ -11,7 +11,9 @@ use Rattle.std.proofs.lemmas.Map.Text.{is_eq-slice_cmp}
 use Rattle.std.proofs.lemmas.Slice.Eq.{bytes_eq-Decides}
 use Rattle.edge_api.specs.declared.call.Object.{Object}
 use Rattle.edge_api.specs.Journal.{Objects, object_at, with_object}
+use Rattle.table_changes.proofs.Files.{other_path}
 use Rattle.table_laws.specs.History.{Put, put_under}
+use Rattle.table_laws.specs.Views.{PutOnce}
 
 abbrev pub or_else : {A : Type 0} → Option A → Option A → Option A
 or_else None y = y
@@ -52,3 +54,15 @@ object_at-with (x ∷ os) name o n free = by (slice_cmp nat_cmp name x.0) refl (
     by Equal e rest = let bad : true ≡ false = sym (equal_is name x.0 e) ∙ (none_rest (bytes_eq x.0 name) x.1 (object_at os name) free).0 in cc
     by Greater e rest =
         elim (bytes_eq x.0 n) as (λ b. (if b then Some x.1 else object_at (with_object os name o) n) ≡ or_else (if b then Some x.1 else object_at os n) (object_at ((name, o) ∷ []) n)) [ true ↦ refl | false ↦ rest ]
+
+-- a put of a name that has none leaves each name put once
+pub push_once : (ps : List Put) (q : Put) → PutOnce ps → put_under ps q.name ≡ None → PutOnce (ps ++ q ∷ [])
+push_once [] q all free = (refl, tt)
+push_once (p ∷ ps) q all free = by (bytes_eq p.name q.name) refl free (push_once ps q all.1)
+  where
+    by : (b : Bool) → bytes_eq p.name q.name ≡ b → (if b then Some p else put_under ps q.name) ≡ None → (put_under ps q.name ≡ None → PutOnce (ps ++ q ∷ [])) → PutOnce (p ∷ ps ++ q ∷ [])
+    by true e h rest = cc
+    by false e h rest = (
+      put_under-push ps q p.name ∙ ap (λ (o : Option Put). or_else o (put_under (q ∷ []) p.name)) all.0 ∙ ap (λ (b : Bool). if b then Some q else None) (other_path p.name q.name e),
+      rest h,
+    )

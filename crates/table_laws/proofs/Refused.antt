@@ -21,7 +21,7 @@ use Rattle.table_laws.proofs.Sessions.{SessionKnows}
 use Rattle.table_laws.specs.Refused.{IsUnknown, FaultedIn, RefusedCommitNothing}
 use Rattle.table_laws.proofs.Lawful.{PutIn, ClaimsNothing}
 use Rattle.table_laws.proofs.Shown.{backwards, own_got, some_same}
-use Rattle.table_laws.proofs.Journals.{Stands}
+use Rattle.table_laws.proofs.Standing.{Stands}
 use Rattle.table_laws.proofs.Ends.{run_end, claims}
 
 -- a put among the newest-first entries is one of those before, or of those in the order of the journal

@@ -10,14 +10,12 @@ use Rattle.row_base.specs.Sorting.{Sorts}
 use Rattle.row_base.specs.Bags.{count_of, SameRows}
 use Rattle.row_base.specs.Schema.{TableSchema}
 use Rattle.op_types.specs.declared.statement.Statement.{Statement}
-use Rattle.op_types.specs.declared.statement.Statement.TheVariants.{Table}
-use Rattle.op_types.specs.declared.statement.TableSpec.{TableSpec}
 use Rattle.op_types.specs.declared.reply.Reply.{Reply}
 use Rattle.table_rules.specs.Names.{commit_text, data_text}
 use Rattle.table_rules.specs.Told.{IsTag}
 use Rattle.line_texts.specs.Texts.{columns_of_text}
 use Rattle.line_texts.proofs.Laws.{columns_read_back}
-use Rattle.snapshot_replay.specs.Table.{Snapshot, table_commit}
+use Rattle.snapshot_replay.specs.Table.{table_commit}
 use Rattle.snapshot_replay.specs.Table.{Commit as LogCommit, paths_of as said_paths}
 use Rattle.call_phases.specs.Phases.{Entries}
 use Rattle.statement_calls.specs.Texts.{read_commit, read_file}
@@ -42,7 +40,7 @@ use Rattle.table_laws.proofs.Known.{loaded_more, knows_more, scanned_more}
 use Rattle.table_laws.proofs.Tries.{put_in_order, put_under-front}
 use Rattle.table_laws.proofs.Names.{same_file}
 use Rattle.table_laws.proofs.Shown.{InPut, Sure, backwards, given_is, own_got, put_of_body, some_same}
-use Rattle.table_laws.proofs.Journals.{Stands, Committed, no_later}
+use Rattle.table_laws.proofs.Standing.{Stands, Committed, no_later}
 use Rattle.table_laws.proofs.Effects.{file_is, commit_is, said_is, loaded_files, loaded_meta, same_written, same_effect, same_judge}
 use Rattle.table_laws.proofs.Readings.{some_put, some_of_body, is_some, none_more, empty_first, same_commit, same_path, first_added, added_is, scanned_rows, scanned_long, length-paths, length-files, first_loaded, lines_read}
 

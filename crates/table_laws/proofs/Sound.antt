@@ -3,8 +3,6 @@ use Rattle.std.proofs.Common.{◌≡◌, ℕ, true, false, List, [], ◌∷◌, 
 use Rattle.std.specs.Prelude.{Option, Some, None, option_map}
 use Rattle.std.specs.List.{filter}
 use Rattle.row_base.specs.Bags.{count_of}
-use Rattle.row_base.specs.Schema.{TableSchema}
-use Rattle.row_base.specs.declared.row.Datum.{Datum}
 use Rattle.op_types.specs.declared.statement.Statement.{Statement}
 use Rattle.op_types.specs.declared.statement.Statement.TheVariants.{Table, Insert, Select}
 use Rattle.op_types.specs.declared.statement.TableSpec.{TableSpec}

@@ -7,7 +7,7 @@ use Rattle.std.proofs.lemmas.Slice.Eq.{bytes_eq-Decides}
 use Rattle.std.proofs.lemmas.Bool.Decides.{nat_tests}
 use Rattle.edge_api.specs.declared.call.Tag.{Tag}
 use Rattle.edge_api.specs.declared.call.Call.{Call}
-use Rattle.edge_api.specs.declared.call.Call.TheVariants.{Get, PutNew, Put as Replace, List as ListNames, Delete, Now, Wait}
+use Rattle.edge_api.specs.declared.call.Call.TheVariants.{Get, PutNew, List as ListNames, Now}
 use Rattle.edge_api.specs.declared.call.Answer.{Answer}
 use Rattle.edge_api.specs.declared.call.Answer.TheVariants.{Body}
 use Rattle.edge_api.specs.declared.call.Listed.{Listed}
@@ -19,7 +19,7 @@ use Rattle.op_types.specs.declared.refusal.Refusal.TheVariants as refusal
 use Rattle.op_types.specs.fault.Feature.TheVariants.{Versions}
 use Rattle.op_types.specs.declared.reply.Reply.TheVariants.{Created, Rows}
 use Rattle.table_rules.specs.Names.{log_prefix, commit_text, data_text}
-use Rattle.table_rules.proofs.Names.{commit_is_read, data_is_outside, data_is_no_commit}
+use Rattle.table_rules.proofs.Names.{data_is_no_commit}
 use Rattle.line_texts.specs.Texts.{text_of_columns, text_of_add, text_of_rows, rows_of_text}
 use Rattle.snapshot_replay.specs.Table.{Commit, Snapshot, paths_of}
 use Rattle.call_phases.specs.Phases.{Entries}
@@ -30,7 +30,7 @@ use Rattle.statement_calls.specs.declared.statement.TableStatement.{TableStateme
 use Rattle.statement_calls.specs.declared.statement.TableStatement.TheVariants as over
 use Rattle.statement_calls.specs.Bounds.{version_limit}
 use Rattle.statement_calls.specs.Judging.{CommitPlan, verdict_of}
-use Rattle.statement_calls.specs.Listing.{commit_of, newest, missing}
+use Rattle.statement_calls.specs.Listing.{newest, missing}
 use Rattle.statement_calls.specs.Objects.{next_commit, apply_next, commits_left, Files, next_file, scan_next, first_of, scan_first, with_rows}
 use Rattle.statement_calls.specs.Outcome.{Ends, refusal_of_load, refusal_of_scan}
 use Rattle.statement_calls.specs.Texts.{read_commit, read_file, file_fault}
@@ -44,42 +44,14 @@ use Rattle.table_laws.specs.Operations.{Scope, NoRow, operation_of}
 use Rattle.table_laws.proofs.CommitEffects.{effect_of, Says, judge_of}
 use Rattle.table_laws.proofs.Sound.{inserts_rows}
 use Rattle.table_laws.proofs.Effects.{loaded_columns}
-use Rattle.table_laws.specs.Runs.{reply_in, or_first, listed_by, told_by, version_put, with_version, versions_put}
+use Rattle.table_laws.specs.Runs.{reply_in, or_first, listed_by, told_by, versions_put}
 use Rattle.table_laws.proofs.Sessions.{GotIn, StoredIn, LoadedTo, KnownKept}
 use Rattle.table_laws.proofs.Lawful.{Known, NoPut, AllLost, first_past, AllGot, AllScanned, Cleared, Knows, versions_down, AllWon, IsFile, IsTable, IsCommit, AllLawful}
 use Rattle.table_laws.proofs.Known.{loaded_more, knows_more, scanned_more, scanned_push}
 use Rattle.table_laws.proofs.Phases.{same_put, now_no_put, list_no_put, none_put, no_commit_put, lost_other, lost_to, given_more, known_more, Fresh, fresh_get, none_lost, replied, ended_lost, at_now, at_list, at_gets, at_put_new, at_attempt}
 use Rattle.table_laws.proofs.Loads.{Loading, loading_more, loading_on, all_loaded, base_known}
 use Rattle.table_laws.proofs.Texts.{append_says, append_clears}
-
--- a commit's put is one of its version, and a data file's of none
-pub commit_put : (v : ℕ) (body : List ℕ) → v < 2 ^ 64 → version_put (PutNew (commit_text v) body) ≡ Some v
-commit_put v body small = ap commit_of (commit_is_read v small)
-
-pub data_put : (tag : Tag) (start : ℕ) (body : List ℕ) → version_put (PutNew (data_text tag start 0) body) ≡ None
-data_put tag start body = ap commit_of (data_is_outside tag start 0).0
-
--- an entry that puts no commit
-pub other_put : (e : JournalEntry) (past : Entries) (call : Call) → e.call ≡ call → version_put call ≡ None → versions_put (e ∷ past) ≡ versions_put past
-other_put e past call is none = ap (λ (c : Call). with_version (version_put c) (versions_put past)) is ∙ ap (λ (o : Option ℕ). with_version o (versions_put past)) none
-
--- one that puts a version's commit
-pub one_put : (e : JournalEntry) (past : Entries) (v : ℕ) (body : List ℕ) → v < 2 ^ 64 → e.call ≡ PutNew (commit_text v) body → versions_put (e ∷ past) ≡ v ∷ versions_put past
-one_put e past v body small is = ap (λ (c : Call). with_version (version_put c) (versions_put past)) is ∙ ap (λ (o : Option ℕ). with_version o (versions_put past)) (commit_put v body small)
-
--- no commit was put where nothing was
-no_versions : (past : Entries) → NoPut past → versions_put past ≡ []
-no_versions [] none = refl
-no_versions (e ∷ past) none = by e.call refl (no_versions past (λ n b a h. none n b a (inr h)))
-  where
-    by : (c : Call) → e.call ≡ c → versions_put past ≡ [] → with_version (version_put c) (versions_put past) ≡ []
-    by (PutNew n b) is rest = absurd (none n b e.answer (inl (is, refl)))
-    by (Get n) is rest = rest
-    by (Replace n b) is rest = rest
-    by (ListNames n) is rest = rest
-    by (Delete n) is rest = rest
-    by Now is rest = rest
-    by (Wait t) is rest = rest
+use Rattle.table_laws.proofs.Versions.{data_put, other_put, one_put, no_versions}
 
 still_won : (e : JournalEntry) (past : Entries) (read v : ℕ) → AllWon past read v → AllWon (e ∷ past) read v
 still_won e past read v won k from to = let w = won k from to in (w.0, inr w.1)

@@ -1,5 +1,5 @@
 -- What the texts of commits say, and that an append clears every winner that reads.
-use Rattle.std.proofs.Common.{◌≡◌, ℕ, suc, ◌==◌, Bool, true, false, List, [], ◌∷◌, map, refl, sym, ap, ◌∙◌, arith}
+use Rattle.std.proofs.Common.{◌≡◌, ℕ, suc, ◌==◌, Bool, true, false, List, [], ◌∷◌, map, sym, ap, ◌∙◌, arith}
 use Rattle.std.specs.Prelude.{Option, Some, None, option_map, if◌then◌else◌}
 use Rattle.std.proofs.lemmas.Bool.Decides.{nat_tests}
 use Rattle.edge_api.specs.declared.call.Tag.{Tag}
@@ -10,7 +10,7 @@ use Rattle.snapshot_replay.specs.Table.{Commit, table_commit, append_commit}
 use Rattle.statement_calls.specs.Texts.{read_commit}
 use Rattle.table_changes.specs.Rows.{Row}
 use Rattle.table_changes.specs.Table.{File, FileLine, Meta, paths_of, lines_of}
-use Rattle.table_changes.specs.Conflicts.{Clash, DeleteDelete, Reads, has_meta, clash_or, first_removed, first_clash}
+use Rattle.table_changes.specs.Conflicts.{DeleteDelete, has_meta, clash_or, first_removed, first_clash}
 use Rattle.table_changes.specs.Operations.{reads_of}
 use Rattle.table_changes.specs.Statements.{insert_of}
 use Rattle.table_laws.specs.Commits.{line_of, meta_of}

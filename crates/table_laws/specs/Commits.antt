@@ -1,7 +1,7 @@
 -- What a commit of the interim texts says, as changes of a table see it (table_changes). History cites it at each version, and the proofs of a load
 -- go by it from a snapshot to a version. When the texts are those of the Delta log, this file goes.
 -- The crate above cites each_run_is_lawful alone.
-use Rattle.std.specs.Prelude.{ℕ, Bool, false, List, [], ◌∷◌, map, Option, Some, None, option_map}
+use Rattle.std.specs.Prelude.{ℕ, Bool, false, List, [], map, Option, None, option_map}
 use Rattle.row_base.specs.declared.row.Kind.TheVariants.{Long}
 use Rattle.row_base.specs.Schema.{TableSchema}
 use Rattle.snapshot_replay.specs.Table.{Add, Action, Removes, Adds, Snapshot}

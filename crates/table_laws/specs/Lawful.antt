@@ -8,6 +8,7 @@ use Rattle.statement_calls.specs.declared.finish.Finish.{Finish}
 use Rattle.table_laws.specs.Runs.{IsRun, replies_of}
 use Rattle.table_laws.specs.Laws.{VersionsAreSerial, CommitsOnce, FirstIsEmpty, FirstMakesTable, CommitsRead, FilesRead, CommitsLand, CommitPutsAreDecided, RepliesCreated, RepliesCommitted, RepliesRead}
 use Rattle.table_laws.specs.Folded.{RowsAreFolded}
+use Rattle.table_laws.specs.Views.{ListingIsNewest, ReadsNeverFall, ReadsCoverCommits, RowsOfOneSession, NamesPutOnce}
 use Rattle.table_laws.specs.Refused.{RefusedCommitNothing}
 
 -- what holds of a journal, by the statement and the reply of each tag
@@ -28,6 +29,14 @@ pub record IsLawful (script : Tag → Option Statement) (replies : Tag → Optio
   -- Each put wins, loses or fails at its own moment
   pub lands : CommitsLand moments
   pub puts : CommitPutsAreDecided moments
+  -- A listing of the log shows the newest version of its moment. So the versions that a session reads never fall, and none is older than one that the
+  -- session has committed before. Of one session the rows are the operations, one after another
+  pub newest : ListingIsNewest moments
+  pub never_falls : ReadsNeverFall moments
+  pub covers : ReadsCoverCommits moments
+  pub session : RowsOfOneSession script moments
+  -- each name is put once
+  pub names : NamesPutOnce moments
   -- replies say what was made, committed and read, and a refused statement has committed nothing, but where its refusal leaves that open
   pub created : RepliesCreated script replies moments
   pub committed : RepliesCommitted script replies moments

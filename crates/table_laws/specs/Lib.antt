@@ -4,5 +4,7 @@ pub mod History
 pub mod Runs
 pub mod Laws
 pub mod Folded
+pub mod Views
+pub mod ViewsMean
 pub mod Refused
 pub mod Lawful

@@ -1,5 +1,5 @@
 -- Journals in which each statement of a script is answered by its own entries.
-use Rattle.std.specs.Prelude.{◌≡◌, ◌⊎◌, ℕ, zero, suc, ◌<◌, ◌^◌, if◌then◌else◌, List, [], ◌∷◌, Option, Some, None}
+use Rattle.std.specs.Prelude.{◌≡◌, ◌⊎◌, ℕ, zero, suc, ◌<◌, ◌≤◌, ◌^◌, if◌then◌else◌, List, [], ◌∷◌, Option, Some, None}
 use Rattle.std.specs.Str.{bytes_eq}
 use Rattle.edge_api.specs.declared.call.Tag.{Tag}
 use Rattle.edge_api.specs.declared.call.Call.{Call}
@@ -18,7 +18,7 @@ use Rattle.statement_calls.specs.declared.finish.Kept.{Kept}
 use Rattle.statement_calls.specs.declared.finish.Finish.{Finish}
 use Rattle.statement_calls.specs.Listing.{newest, commit_version}
 use Rattle.statement_calls.specs.Answered.{Answered}
-use Rattle.actor_core.specs.Entries.{own}
+use Rattle.actor_core.specs.Entries.{own, of_actor}
 
 -- the reply of an outcome, where there is one
 abbrev pub reply_in : Option Finish → Option Reply
@@ -104,9 +104,21 @@ abbrev pub versions_put : Entries → List ℕ
 versions_put [] = []
 versions_put (e ∷ es) = with_version (version_put e.call) (versions_put es)
 
+-- no entry is of a statement before this one
+abbrev pub NoneEarlier : ℕ → Entries → Type 0
+NoneEarlier statement [] = Unit {0}
+NoneEarlier statement (e ∷ es) = (statement ≤ e.tag.statement) × NoneEarlier statement es
+
+-- the entries come statement by statement
+abbrev pub Rises : Entries → Type 0
+Rises [] = Unit {0}
+Rises (e ∷ es) = NoneEarlier e.tag.statement es × Rises es
+
 -- the journal of a run of a script: it answers each statement of the script
 pub record IsRun (limit : ℕ) (script : Tag → Option Statement) (outcomes : Tag → Option Finish) (journal : Entries) : Type 0 where
   pub answered : IsAnswered limit script outcomes journal
+  -- a session's statements come one after another
+  pub in_order : (actor : ℕ) → Rises (of_actor actor journal)
   -- attempts are counted by 32 bits, and tags by 16 and 32
   pub limited : limit < 2 ^ 32
   pub tags : (tag : Tag) (statement : Statement) → script tag ≡ Some statement → IsTag tag

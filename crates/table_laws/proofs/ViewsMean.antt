@@ -1,0 +1,166 @@
+-- Short journals, of which the words of Views hold and are refuted.
+-- Names of commits aren't computed: they are told apart by commits_differ.
+-- views_mean is the law.
+use Rattle.std.proofs.Common.{◌≡◌, ℕ, zero, suc, ◌<◌, ◌^◌, Bool, true, false, List, [], ◌∷◌, ◌++◌, refl, sym, ◌∙◌, ap, subst, arith}
+use Rattle.std.specs.Prelude.{Option, Some, None, if◌then◌else◌, option_map}
+use Rattle.std.specs.Str.{bytes_eq}
+use Rattle.std.proofs.lemmas.Slice.Eq.{bytes_eq-Decides}
+use Rattle.edge_api.specs.declared.call.Tag.{Tag}
+use Rattle.edge_api.specs.declared.call.Call.TheVariants.{PutNew, List as ListNames}
+use Rattle.edge_api.specs.declared.call.Answer.TheVariants.{Names}
+use Rattle.edge_api.specs.declared.call.Listed.{Listed}
+use Rattle.edge_api.specs.declared.call.Object.{Object}
+use Rattle.edge_api.specs.Journal.{Objects, Moment, same_tag, entries_of, object_at}
+use Rattle.table_rules.specs.Names.{log_prefix, commit_text}
+use Rattle.table_rules.proofs.Names.{commit_is_read, commits_differ}
+use Rattle.line_texts.proofs.Laws.{columns_read_back}
+use Rattle.snapshot_replay.specs.Table.{table_commit}
+use Rattle.statement_calls.specs.Listing.{commit_of, later, newest}
+use Rattle.actor_core.specs.Entries.{own}
+use Rattle.actor_core.proofs.Owners.{same_tag_is}
+use Rattle.table_changes.specs.Table.{Commit, level_of}
+use Rattle.table_laws.specs.History.{Put, put_under, put_if_free, body_of, history}
+use Rattle.table_laws.specs.Runs.{or_first, listed_by, version_read}
+use Rattle.table_laws.specs.Views.{IsNewest, IsLater, PutOnce}
+use Rattle.table_laws.specs.ViewsMean.{maker, first, second, puts, lists, lists_none, table_put, ViewsMean}
+use Rattle.table_laws.proofs.Shown.{one_under, one_itself, some_same}
+use Rattle.table_laws.proofs.Readings.{is_some}
+use Rattle.table_laws.proofs.Effects.{commit_is}
+
+self_name : (n : List ℕ) → bytes_eq n n ≡ true
+self_name n = (bytes_eq-Decides n n).1 refl
+
+-- names of two versions' commits
+apart : (v w : ℕ) → v < 2 ^ 64 → w < 2 ^ 64 → (v ≡ w → ⊥) → bytes_eq (commit_text v) (commit_text w) ≡ false
+apart v w small also differ = by (bytes_eq (commit_text v) (commit_text w)) refl
+  where
+    by : (b : Bool) → bytes_eq (commit_text v) (commit_text w) ≡ b → b ≡ false
+    by false e = refl
+    by true e = absurd (differ (commits_differ v w small also ((bytes_eq-Decides (commit_text v) (commit_text w)).0 e)))
+
+abbrev put_of : Tag → ℕ → Put
+put_of tag v = record { tag = tag; name = commit_text v; body = []; at = 0 }
+
+abbrev one_listed : ℕ → List Listed
+one_listed v = record { name = commit_text v; put_at = 0 } ∷ []
+
+-- a listing of one version shows it
+shows_one : (v : ℕ) → v < 2 ^ 64 → newest (one_listed v) ≡ Some v
+shows_one v small = ap (λ (o : Option ℕ). later o None) (ap commit_of (commit_is_read v small))
+
+reads_one : (v : ℕ) → v < 2 ^ 64 → listed_by (ListNames log_prefix) (Names (one_listed v)) ≡ Some v
+reads_one v small = ap (λ (b : Bool). if b then newest (one_listed v) else None) (self_name log_prefix) ∙ shows_one v small
+
+no_some : {A : Type 0} (x : A) → None ≡ Some x → ⊥
+no_some x h = cc
+
+same_head : (x y : Moment) (xs ys : List Moment) → x ∷ xs ≡ y ∷ ys → (x ≡ y) × (xs ≡ ys)
+same_head x y xs ys h = (cc, cc)
+
+no_parts : (before after : List Moment) (m : Moment) → [] ≡ before ++ m ∷ after → ⊥
+no_parts [] after m h = cc
+no_parts (x ∷ before) after m h = cc
+
+no_listing : (n b prefix : List ℕ) → PutNew n b ≡ ListNames prefix → ⊥
+no_listing n b prefix h = cc
+
+same_names : (a b : List Listed) → Names a ≡ Names b → a ≡ b
+same_names a b h = cc
+
+only_newest : IsNewest (put_of maker 0 ∷ []) (Some 0)
+only_newest = (
+  is_some (put_under (put_of maker 0 ∷ []) (commit_text 0)) (put_of maker 0) (one_itself (put_of maker 0)),
+  λ w more small. ap (λ (b : Bool). if b then Some (put_of maker 0) else None) (apart 0 w (omega arith) small (λ same. absurd (omega (arith, more, same)))),
+)
+
+abbrev read_two : Tag → ℕ → ℕ → Bool → Bool → Option ℕ
+read_two t v w b c = version_read (if b then (lists first v).entry ∷ (if c then (lists second w).entry ∷ [] else []) else (if c then (lists second w).entry ∷ [] else []))
+
+-- of two statements that list, the later one is the second and the other the first
+two_reads : (earlier later : Tag) (v w x y : ℕ) → v < 2 ^ 64 → w < 2 ^ 64 → IsLater earlier later → version_read (own earlier (entries_of (lists first v ∷ lists second w ∷ []))) ≡ Some x
+    → version_read (own later (entries_of (lists first v ∷ lists second w ∷ []))) ≡ Some y → (v ≡ x) × (w ≡ y)
+two_reads earlier later v w x y small also is h k = by (same_tag earlier first) refl (same_tag earlier second) refl (same_tag later first) refl (same_tag later second) refl h k
+  where
+    first_is : (t : Tag) → same_tag t first ≡ true → t.statement ≡ 1
+    first_is t e = ap (λ (u : Tag). u.statement) (same_tag_is t first e)
+
+    second_is : (t : Tag) → same_tag t second ≡ true → t.statement ≡ 2
+    second_is t e = ap (λ (u : Tag). u.statement) (same_tag_is t second e)
+
+    by : (a : Bool) → same_tag earlier first ≡ a → (b : Bool) → same_tag earlier second ≡ b → (c : Bool) → same_tag later first ≡ c → (d : Bool) → same_tag later second ≡ d
+        → read_two earlier v w a b ≡ Some x → read_two later v w c d ≡ Some y → (v ≡ x) × (w ≡ y)
+    by true e b f true g d i h k = let lt = is.1 in let p = first_is earlier e in let q = first_is later g in absurd (omega (arith, lt, p, q))
+    by true e b f false g false i h k = absurd (no_some y k)
+    by true e b f false g true i h k = (
+      some_same v x (sym (ap (λ (o : Option ℕ). or_first o (version_read (if b then (lists second w).entry ∷ [] else []))) (reads_one v small)) ∙ h),
+      some_same w y (sym (ap (λ (o : Option ℕ). or_first o None) (reads_one w also)) ∙ k),
+    )
+    by false e true f true g d i h k = let lt = is.1 in let p = second_is earlier f in let q = first_is later g in absurd (omega (arith, lt, p, q))
+    by false e true f false g true i h k = let lt = is.1 in let p = second_is earlier f in let q = second_is later i in absurd (omega (arith, lt, p, q))
+    by false e true f false g false i h k = absurd (no_some y k)
+    by false e false f c g d i h k = absurd (no_some x h)
+
+-- what the second statement reads
+second_reads : (v : ℕ) → v < 2 ^ 64 → (later : Tag) → IsLater first later → (y : ℕ) → version_read (own later ((puts first 1).entry ∷ (lists second v).entry ∷ [])) ≡ Some y → v ≡ y
+second_reads v small later is y k = by (same_tag later first) refl (same_tag later second) refl k
+  where
+    by : (c : Bool) → same_tag later first ≡ c → (d : Bool) → same_tag later second ≡ d
+        → version_read (if c then (puts first 1).entry ∷ (if d then (lists second v).entry ∷ [] else []) else (if d then (lists second v).entry ∷ [] else [])) ≡ Some y → v ≡ y
+    by true g d i k = let lt = is.1 in let q : later.statement ≡ 1 = ap (λ (u : Tag). u.statement) (same_tag_is later first g) in absurd (omega (arith, lt, q))
+    by false g true i k = some_same v y (sym (ap (λ (o : Option ℕ). or_first o None) (reads_one v small)) ∙ k)
+    by false g false i k = absurd (no_some y k)
+
+small_one : suc zero < 2 ^ 64
+small_one = omega arith
+
+newest_holds : (before after : List Moment) (m : Moment) (listed : List Listed) → puts maker 0 ∷ lists first 0 ∷ [] ≡ before ++ m ∷ after → m.entry.call ≡ ListNames log_prefix → m.entry.answer ≡ Names listed → IsNewest (history [] before) (newest listed)
+newest_holds [] after m listed parts call answer = absurd (no_listing (commit_text 0) [] log_prefix (ap (λ (x : Moment). x.entry.call) (same_head (puts maker 0) m (lists first 0 ∷ []) after parts).0 ∙ call))
+newest_holds (x ∷ []) after m listed parts call answer =
+    let one = same_head (puts maker 0) x (lists first 0 ∷ []) (m ∷ after) parts in
+    let two = same_head (lists first 0) m [] after one.1 in
+    let shown : one_listed 0 ≡ listed = same_names (one_listed 0) listed (ap (λ (y : Moment). y.entry.answer) two.0 ∙ answer) in
+    subst (λ (y : Moment). IsNewest (history [] (y ∷ [])) (newest listed)) one.0
+    (subst (λ (l : List Listed). IsNewest (put_of maker 0 ∷ []) (newest l)) shown (subst (λ (o : Option ℕ). IsNewest (put_of maker 0 ∷ []) o) (sym (shows_one 0 (omega arith))) only_newest))
+newest_holds (x ∷ y ∷ before) after m listed parts call answer =
+    absurd (no_parts before after m (same_head (lists first 0) y [] (before ++ m ∷ after) (same_head (puts maker 0) x (lists first 0 ∷ []) (y ∷ (before ++ m ∷ after)) parts).1).1)
+
+abbrev object_put : Object
+object_put = record { body = []; put_at = 0 }
+
+-- the second of two puts, by whether its name is that of the first
+abbrev puts_then : ℕ → Bool → List Put
+puts_then v same = put_of first 0 ∷ (put_if_free (if same then Some object_put else None) (put_of second v) ++ [])
+
+once_holds : PutOnce (puts_then 1 (bytes_eq (commit_text 0) (commit_text 1)))
+once_holds =
+    subst (λ (b : Bool). PutOnce (puts_then 1 b)) (sym (apart 0 1 (omega arith) small_one (λ same. absurd (omega (arith, same)))))
+    (ap (λ (b : Bool). if b then Some (put_of second 1) else None) (apart 1 0 small_one (omega arith) (λ same. absurd (omega (arith, same)))), (refl, tt))
+
+-- the objects once the first is deleted
+abbrev left_after : Bool → Objects
+left_after gone = if gone then [] else (commit_text 0, object_put) ∷ []
+
+twice_refuted : PutOnce (put_of first 0 ∷ (put_if_free (object_at (left_after (bytes_eq (commit_text 0) (commit_text 0))) (commit_text 0)) (put_of second 0) ++ [])) → ⊥
+twice_refuted h =
+    let both : PutOnce (put_of first 0 ∷ put_of second 0 ∷ []) = subst (λ (b : Bool). PutOnce (put_of first 0 ∷ (put_if_free (object_at (left_after b) (commit_text 0)) (put_of second 0) ++ []))) (self_name (commit_text 0)) h in
+    no_some (put_of second 0) (sym both.0 ∙ one_itself (put_of second 0))
+
+pub views_mean : ViewsMean
+views_mean = record {
+  newest = newest_holds;
+  stale = λ h. no_some (put_of maker 0) (sym (h (puts maker 0 ∷ []) [] (lists_none first) [] refl refl refl 0 (omega arith)) ∙ one_itself (put_of maker 0));
+  rises = λ earlier later v w is h k. let two = two_reads earlier later 0 1 v w (omega arith) small_one is h k in let a = two.0 in let b = two.1 in omega (arith, a, b);
+  falls = λ h. let le = h first second 1 0 (refl, omega arith) (ap (λ (o : Option ℕ). or_first o None) (reads_one 1 small_one)) (ap (λ (o : Option ℕ). or_first o None) (reads_one 0 (omega arith))) in omega (arith, le);
+  covers = λ p later v w small there is h.
+      let put = one_under (put_of first 1) p (commit_text v) there in
+      let same : suc zero ≡ v = commits_differ 1 v small_one small put.0 in
+      let whose : IsLater first later = subst (λ (q : Put). IsLater q.tag later) (sym put.1) is in
+      let reads = second_reads 1 small_one later whose w h in
+      omega (arith, same, reads);
+  forgets = λ h. let le = h (put_of first 1) second 1 0 small_one (one_itself (put_of first 1)) (refl, omega arith) (ap (λ (o : Option ℕ). or_first o None) (reads_one 0 (omega arith))) in omega (arith, le);
+  once = once_holds;
+  twice = twice_refuted;
+  level = λ columns rows words. ap (λ (t : Commit). level_of t.meta) (commit_is (table_put columns ∷ []) 0 (table_put columns).body (table_commit columns) (ap body_of (one_itself (table_put columns))) (ap (option_map table_commit) (columns_read_back columns words)));
+  strict = λ columns. refl;
+  no_table = λ rows h. cc;
+}
