@@ -1,0 +1,9 @@
+pub mod Bagged
+mod Found
+pub mod Gathering
+pub mod Lesser
+mod Split
+pub mod Told
+mod Together
+pub mod Untouched
+pub mod Widths

@@ -1,0 +1,5 @@
+pub mod Changes
+pub mod Images
+pub mod Laws
+pub mod Operations
+pub mod Outcomes

@@ -1,0 +1,226 @@
+//! A delete, an update or an insert select on the rows of a file.
+ghost use Rattle.std.specs.Prelude.{◌≡◌, ◌&&◌, ◌++◌, true, length, [], IfOk, OnOk};
+ghost use Rattle.std.specs.List.{list_all, list_any};
+ghost use Rattle.row_base.specs.Bags.{others};
+ghost use Rattle.row_base.specs.Faults.{Reads};
+ghost use Rattle.predicates.specs.Truths.{is_bound};
+ghost use Rattle.predicates.specs.Values.{is_expr_bound};
+ghost use Rattle.op_types.specs.Bound.{are_sets_bound, is_row_op_bound};
+ghost use Rattle.dml_ops.specs.Outcomes.{is_op_memory, results, given, lesser, wrong_of};
+ghost use Rattle.dml_ops.specs.Changes as spec;
+
+use crate::{Gathered, OpFault, selected_row, updated_row};
+use op_types::{RowOp, Scope, SetTo};
+use predicates::{Expr, Truth};
+use row_base::{Datum, NoMemory, Rows, Schema};
+use std::alloc::Global;
+
+/// What a change makes of a file.
+#[derive(Drop)]
+pub struct Changed {
+    /// A row of the file is replaced or taken away.
+    pub touched: bool,
+    /// The file's rows after the change, in their order.
+    pub rows: Rows,
+    /// The rows that are added.
+    pub extra: Rows,
+}
+
+/// Whether a row is in a scope: its truth is `Yes`.
+pub fn passes(pred: &Scope, row: &[Datum]) -> bool
+    requires { is_bound (length row.now) pred.now ≡ true }
+    ensures { result ≡ spec.passes pred.now row.now }
+{
+    pred.truth(row) == Truth::Yes
+}
+
+/// Whether one of these rows is in the scope.
+fn any_passes(pred: &Scope, rows: &Rows) -> bool
+    requires { list_all (λ r. is_bound (length r) pred.now) rows.now ≡ true }
+    ensures { result ≡ list_any (spec.passes pred.now) rows.now }
+{
+    for row in rows.iter() {
+        if passes(pred, row) {
+            return true;
+        }
+    }
+    false
+}
+
+/// The rows that are not in the scope. The bytes of texts are shared.
+fn rows_left(alloc: Global, pred: &Scope, rows: &Rows) -> Result<Rows, NoMemory>
+    requires { list_all (λ r. is_bound (length r) pred.now) rows.now ≡ true }
+    ensures { IfOk result (λ r. r ≡ others (spec.passes pred.now) rows.now) }
+{
+    let mut left = Rows::new(alloc);
+    for row in rows.iter() {
+        if !passes(pred, row) {
+            left.push_copy(row)?;
+        }
+    }
+    Ok(left)
+}
+
+/// Takes what comes of a row of a file by an update.
+#[tactic(auto, using(crate::proofs::Told::told_is))]
+fn update_row(
+    alloc: Global,
+    pred: &Scope,
+    sets: &[SetTo<u32>],
+    schema: &Schema,
+    row: &[Datum],
+    gathered: &mut Gathered,
+) -> Result<(), NoMemory>
+    requires pred { is_bound (length row.now) pred.now ≡ true }
+    requires sets { are_sets_bound (length row.now) 0 sets.now ≡ true }
+    ensures rows { OnOk result (gathered.new.rows ≡ gathered.old.rows ++ given (spec.update_step pred.now sets.now schema.now row.now)) }
+    ensures least { OnOk result (gathered.new.least ≡ lesser gathered.old.least (wrong_of row.now (spec.update_step pred.now sets.now schema.now row.now))) }
+{
+    if !passes(pred, row) {
+        gathered.keep(row)?;
+        return Ok(());
+    }
+    let image = updated_row(alloc, schema, sets, row, &[]);
+    gathered.put(alloc, row, image)?;
+    Ok(())
+}
+
+/// Takes what is added for a row of a file by an insert select.
+#[tactic(auto, using(crate::proofs::Told::told_is))]
+fn select_row(
+    alloc: Global,
+    pred: &Scope,
+    exprs: &[Expr<u32>],
+    schema: &Schema,
+    row: &[Datum],
+    gathered: &mut Gathered,
+) -> Result<(), NoMemory>
+    requires pred { is_bound (length row.now) pred.now ≡ true }
+    requires exprs { list_all (is_expr_bound (length row.now) 0) exprs.now ≡ true }
+    ensures rows { OnOk result (gathered.new.rows ≡ gathered.old.rows ++ given (spec.select_step pred.now exprs.now schema.now row.now)) }
+    ensures least { OnOk result (gathered.new.least ≡ lesser gathered.old.least (wrong_of row.now (spec.select_step pred.now exprs.now schema.now row.now))) }
+{
+    if !passes(pred, row) {
+        return Ok(());
+    }
+    let image = selected_row(alloc, schema, exprs, row);
+    gathered.put(alloc, row, image)?;
+    Ok(())
+}
+
+/// The rows, with those of the scope changed.
+fn rows_updated(
+    alloc: Global,
+    pred: &Scope,
+    sets: &[SetTo<u32>],
+    schema: &Schema,
+    rows: &Rows,
+) -> Result<Rows, OpFault>
+    requires { list_all (λ r. is_bound (length r) pred.now && are_sets_bound (length r) 0 sets.now) rows.now ≡ true }
+    ensures { Reads is_op_memory result (results (spec.update_step pred.now sets.now schema.now) rows.now) }
+{
+    let mut gathered = Gathered::new(alloc);
+    for row in rows.iter() {
+        update_row(alloc, pred, sets, schema, row, &mut gathered)?;
+    }
+    gathered.finish()
+}
+
+/// The rows of the expressions for the rows of the scope.
+fn rows_selected(
+    alloc: Global,
+    pred: &Scope,
+    exprs: &[Expr<u32>],
+    schema: &Schema,
+    rows: &Rows,
+) -> Result<Rows, OpFault>
+    requires { list_all (λ r. is_bound (length r) pred.now && list_all (is_expr_bound (length r) 0) exprs.now) rows.now ≡ true }
+    ensures { Reads is_op_memory result (results (spec.select_step pred.now exprs.now schema.now) rows.now) }
+{
+    let mut gathered = Gathered::new(alloc);
+    for row in rows.iter() {
+        select_row(alloc, pred, exprs, schema, row, &mut gathered)?;
+    }
+    gathered.finish()
+}
+
+/// A file with these rows, and none that are added.
+fn file_with(alloc: Global, touched: bool, rows: Rows) -> Changed
+    ensures { result ≡ record { touched = touched; rows = rows; extra = [] } }
+{
+    Changed {
+        touched,
+        rows,
+        extra: Rows::new(alloc),
+    }
+}
+
+/// A delete.
+#[tactic(auto, using(crate::proofs::Untouched::none_taken))]
+fn delete(alloc: Global, pred: &Scope, rows: Rows) -> Result<Changed, OpFault>
+    requires { list_all (λ r. is_bound (length r) pred.now) rows ≡ true }
+    ensures { Reads is_op_memory result (spec.deleted pred.now rows) }
+{
+    if !any_passes(pred, &rows) {
+        return Ok(file_with(alloc, false, rows));
+    }
+    let rows = rows_left(alloc, pred, &rows)?;
+    Ok(file_with(alloc, true, rows))
+}
+
+/// An update.
+#[tactic(auto, using(crate::proofs::Untouched::none_changed))]
+fn update(
+    alloc: Global,
+    pred: &Scope,
+    sets: &[SetTo<u32>],
+    schema: &Schema,
+    rows: Rows,
+) -> Result<Changed, OpFault>
+    requires { list_all (λ r. is_bound (length r) pred.now && are_sets_bound (length r) 0 sets.now) rows ≡ true }
+    ensures { Reads is_op_memory result (spec.updated_file pred.now sets.now schema.now rows) }
+{
+    if !any_passes(pred, &rows) {
+        return Ok(file_with(alloc, false, rows));
+    }
+    let rows = rows_updated(alloc, pred, sets, schema, &rows)?;
+    Ok(file_with(alloc, true, rows))
+}
+
+/// An insert select.
+fn insert_select(
+    alloc: Global,
+    pred: &Scope,
+    exprs: &[Expr<u32>],
+    schema: &Schema,
+    rows: Rows,
+) -> Result<Changed, OpFault>
+    requires { list_all (λ r. is_bound (length r) pred.now && list_all (is_expr_bound (length r) 0) exprs.now) rows ≡ true }
+    ensures { Reads is_op_memory result (spec.extended pred.now exprs.now schema.now rows) }
+{
+    let extra = rows_selected(alloc, pred, exprs, schema, &rows)?;
+    Ok(Changed {
+        touched: false,
+        rows,
+        extra,
+    })
+}
+
+/// The rows of a file after a delete, an update or an insert select, and the rows that an insert select adds. The
+/// columns of the operation are places of the rows. A file is touched where one of its rows is in the scope of a delete
+/// or an update; the rows of one that is not are handed back as they came, and those of one that is keep their order
+/// and share the bytes of their texts.
+pub fn change_file(alloc: Global, op: &RowOp, rows: Rows) -> Result<Changed, OpFault>
+    requires { list_all (λ r. is_row_op_bound (length r) op.now) rows ≡ true }
+    ensures { Reads is_op_memory result (spec.changed_by op.now rows) }
+{
+    match op {
+        RowOp::Delete { pred } => delete(alloc, pred, rows),
+        RowOp::Update { pred, sets, schema } => update(alloc, pred, sets.as_slice(), schema, rows),
+        RowOp::InsertSelect {
+            pred,
+            exprs,
+            schema,
+        } => insert_select(alloc, pred, exprs.as_slice(), schema, rows),
+    }
+}
