@@ -1,0 +1,7 @@
+mod Assembled
+mod FileSteps
+mod KeyData
+pub mod Keyings
+pub mod Least
+mod Scoped
+mod SameBags
