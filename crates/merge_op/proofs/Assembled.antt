@@ -25,10 +25,14 @@ abbrev ended : List Row → Option WrongRow → Result (List Row) MergeFault
 ended rows l = result_map_both (λ ys. ys) merge_fault (finished rows l)
 
 -- over files, and over the bag
+abbrev gathered : List (List ℕ) → Result (List Row) MergeFault → Result Merged MergeFault
+gathered paths r = r >>= λ ys. Ok (record { removed = paths; rows = ys })
+
+abbrev extended : List Row → Merged → Result Merged MergeFault
+extended more c = Ok (record { removed = c.removed; rows = c.rows ++ more })
+
 abbrev over_files : Option Row → Option WrongRow → List (List ℕ) → List Row → List Row → List Row → Result (List Row) MergeFault
-over_files a l paths rows more rest =
-    (unambiguous a >>= λ u. (ended rows l >>= λ ys. Ok (record { removed = paths; rows = ys })) >>= λ c. Ok (record { removed = c.removed; rows = c.rows ++ more }))
-    >>= λ c. Ok (rest ++ c.rows)
+over_files a l paths rows more rest = (unambiguous a >>= λ u. gathered paths (ended rows l) >>= λ c. extended more c) >>= λ c. Ok (rest ++ c.rows)
 
 abbrev over_bag : Option Row → Option WrongRow → List Row → List Row → List Row → Result (List Row) MergeFault
 over_bag a l rows more rest = (unambiguous a >>= λ u. ended rows l >>= λ ys. Ok (ys ++ more)) >>= λ ys. Ok (rest ++ ys)

@@ -6,7 +6,7 @@ ghost use Rattle.op_types.specs.Bound.{is_merge_bound};
 ghost use Rattle.merge_op.specs.Found.{IsKeyed};
 ghost use Rattle.merge_op.specs.Merges as spec;
 
-use crate::keys::{Keyed, found};
+use crate::keys::{Keyed, match_of};
 use op_types::MergeOp;
 use row_base::{Datum, NoMemory, Row, Rows, ScannedFile, cmp_rows};
 use std::alloc::Global;
@@ -17,7 +17,7 @@ fn is_ambiguous(alloc: Global, op: &MergeOp, keyed: &Keyed<'_>, row: &[Datum]) -
     requires keyed { IsKeyed op.now.keys op.now.source keyed.now }
     ensures { IfOk result (λ b. b ≡ spec.is_ambiguous op.now row.now) }
 {
-    match found(alloc, op, keyed, row)? {
+    match match_of(alloc, op, keyed, row)? {
         Some(found) => Ok(op.matched.is_some() && found.several),
         None => Ok(false),
     }

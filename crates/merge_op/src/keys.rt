@@ -5,7 +5,7 @@ ghost use Rattle.std.specs.List.{list_all, list_any};
 ghost use Rattle.row_base.specs.RowOrder.{row_cmp};
 ghost use Rattle.op_types.specs.Bound.{is_merge_bound};
 ghost use Rattle.merge_op.specs.Matches.{key_data, has_null};
-ghost use Rattle.merge_op.specs.Merges.{match_of};
+ghost use Rattle.merge_op.specs.Merges as spec;
 ghost use Rattle.merge_op.specs.Found.{IsKeyed, found_view, with_row};
 
 use op_types::MergeOp;
@@ -102,10 +102,10 @@ pub(crate) fn under<'a>(keyed: &Keyed<'a>, key: &Row) -> Option<Found<'a>>
 
 /// The first row of the source that matches a row, and whether there is another one.
 #[tactic(auto, using(crate::proofs::Keyings::none_found, crate::proofs::Keyings::key_found, crate::proofs::Keyings::found_wide))]
-pub(crate) fn found<'a>(alloc: Global, op: &MergeOp, keyed: &Keyed<'a>, row: &[Datum]) -> Result<Option<Found<'a>>, NoMemory>
+pub(crate) fn match_of<'a>(alloc: Global, op: &MergeOp, keyed: &Keyed<'a>, row: &[Datum]) -> Result<Option<Found<'a>>, NoMemory>
     requires bound { is_merge_bound (length row.now) op.now ≡ true }
     requires keyed { IsKeyed op.now.keys op.now.source keyed.now }
-    ensures found { IfOk result (λ o. found_view o ≡ match_of op.now row.now) }
+    ensures found { IfOk result (λ o. found_view o ≡ spec.match_of op.now row.now) }
     ensures wide { IfOk result (λ o. IfSome o (λ f. length f.row.now ≡ length row.now)) }
 {
     if is_null_key(op.keys.as_slice(), row) {

@@ -1,12 +1,12 @@
 //! What a merge makes of rows, one by one.
 ghost use Rattle.std.specs.Prelude.{◌≡◌, ◌++◌, ◌&&◌, ◌==◌, true, length, is_some, IfOk, IfSome, OnOk, option_copied};
 ghost use Rattle.std.specs.List.{list_all, list_any};
-ghost use Rattle.op_types.specs.Bound.{is_change_bound, is_merge_bound};
+ghost use Rattle.op_types.specs.Bound.{is_change_bound, is_by_source_bound, is_merge_bound};
 ghost use Rattle.dml_ops.specs.Outcomes.{given, wrong_of, lesser, rows_of, least_of};
 ghost use Rattle.merge_op.specs.Found.{IsKeyed, found_view};
 ghost use Rattle.merge_op.specs.Merges as spec;
 
-use crate::keys::{Found, Keyed, found};
+use crate::keys::{Found, Keyed, match_of};
 use dml_ops::{Gathered, passes, updated_row};
 use op_types::{BySource, Change, MergeOp};
 use row_base::{Datum, NoMemory, Row, Rows, Schema, cmp_rows};
@@ -85,7 +85,7 @@ fn merge_row(
     ensures rows { OnOk result (gathered.new.rows ≡ gathered.old.rows ++ given (spec.merge_step schema.now op.now row.now)) }
     ensures least { OnOk result (gathered.new.least ≡ lesser gathered.old.least (wrong_of row.now (spec.merge_step schema.now op.now row.now))) }
 {
-    let found = found(alloc, op, keyed, row)?;
+    let found = match_of(alloc, op, keyed, row)?;
     match change_by(op, found, row) {
         Some(change) => {
             put_changed(alloc, schema, change, row, source_of(found), gathered)?;
@@ -124,7 +124,7 @@ fn is_changed(alloc: Global, op: &MergeOp, keyed: &Keyed<'_>, row: &[Datum]) -> 
     requires keyed { IsKeyed op.now.keys op.now.source keyed.now }
     ensures { IfOk result (λ b. b ≡ is_some (spec.change_of op.now row.now)) }
 {
-    let found = found(alloc, op, keyed, row)?;
+    let found = match_of(alloc, op, keyed, row)?;
     Ok(change_by(op, found, row).is_some())
 }
 
