@@ -9,11 +9,12 @@ use Rattle.row_base.specs.RowOrder.{row_cmp, row_eq}
 use Rattle.row_base.specs.declared.row.Datum.{Datum}
 use Rattle.row_base.proofs.RowOrder.{row_decides}
 use Rattle.op_types.specs.declared.bound.MergeSpec.{MergeSpec}
-use Rattle.op_types.specs.Bound.{is_merge_bound, is_matched_bound, is_by_source_bound}
+use Rattle.op_types.specs.Bound.{is_merge_bound}
 use Rattle.merge_op.specs.declared.keys.Found.{Found}
 use Rattle.merge_op.specs.Found.{found_view, with_row, IsKeyed, has_key, is_left}
 use Rattle.merge_op.specs.Matches.{is_match, matches, unmatched, key_data, has_null}
 use Rattle.merge_op.specs.Merges.{first_of, match_of}
+use Rattle.merge_op.proofs.Widths.{source_wide}
 use Rattle.merge_op.proofs.KeyData.{match_is, match_has, null_matches, null_source}
 
 abbrev Row : Type 0
@@ -93,15 +94,6 @@ first_passes P test (s ∷ source) all = by (test s) (P s) refl all (first_passe
     by true true e all rest = head_of (filter test source) e
     by false true e all rest = rest all
     by b false e all rest = absurd cc
-
-pick : (a b c d : Bool) → (a && b && c && d) ≡ true → b ≡ true
-pick true true c d e = refl
-pick true false c d e = absurd cc
-pick false b c d e = absurd cc
-
-pub source_wide : (width : ℕ) (m : MergeSpec ℕ) → is_merge_bound width m ≡ true → list_all (λ s. length s == width) m.source ≡ true
-source_wide width m e =
-    pick (list_all (λ c. nat_lt c width) m.keys) (list_all (λ s. length s == width) m.source) (is_matched_bound width m.matched) (is_by_source_bound width m.by_source) e
 
 pub found_wide : (m : MergeSpec ℕ) (row : Row) (o : Option Found) → found_view o ≡ match_of m row → is_merge_bound (length row) m ≡ true → IfSome o (λ f. length f.row.now ≡ length row)
 found_wide m row None e bound = tt

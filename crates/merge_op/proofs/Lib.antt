@@ -5,3 +5,4 @@ pub mod Keyings
 pub mod Least
 mod Scoped
 mod SameBags
+pub mod Widths

@@ -98,39 +98,53 @@ ended_same (Ok xs) (Err e) h = h
 ended_same (Err e) (Ok ys) h = h
 ended_same (Err e) (Err f) h = ap merge_fault h
 
--- with rows behind, and before
-behind : (r s : Result (List Row) MergeFault) (D E A B : List Row) → SameMerge r s → SameRows D E → SameRows A B
-    → SameMerge ((r >>= λ ys. Ok (ys ++ D)) >>= λ ys. Ok (A ++ ys)) ((s >>= λ ys. Ok (ys ++ E)) >>= λ ys. Ok (B ++ ys))
-behind (Ok xs) (Ok ys) D E A B h k g = λ y.
+-- with rows behind
+behind : (r s : Result (List Row) MergeFault) (D E : List Row) → SameMerge r s → SameRows D E → SameMerge (r >>= λ ys. Ok (ys ++ D)) (s >>= λ ys. Ok (ys ++ E))
+behind (Ok xs) (Ok ys) D E h k = λ y.
     let p = h y in
     let q = k y in
-    let r = g y in
     let a = count_of-append y xs D in
     let b = count_of-append y ys E in
-    let c = count_of-append y A (xs ++ D) in
-    let d = count_of-append y B (ys ++ E) in
     omega arith
-behind (Ok xs) (Err e) D E A B h k g = h
-behind (Err e) (Ok ys) D E A B h k g = h
-behind (Err e) (Err f) D E A B h k g = h
+behind (Ok xs) (Err e) D E h k = h
+behind (Err e) (Ok ys) D E h k = h
+behind (Err e) (Err f) D E h k = h
 
-checked : (a : Option Row) (r s : Result (List Row) MergeFault) (D E A B : List Row) → SameMerge r s → SameRows D E → SameRows A B
-    → SameMerge ((unambiguous a >>= λ u. r >>= λ ys. Ok (ys ++ D)) >>= λ ys. Ok (A ++ ys)) ((unambiguous a >>= λ u. s >>= λ ys. Ok (ys ++ E)) >>= λ ys. Ok (B ++ ys))
-checked None r s D E A B h k g = behind r s D E A B h k g
-checked (Some x) r s D E A B h k g = refl
+-- with rows before
+before : (r s : Result (List Row) MergeFault) (A B : List Row) → SameMerge r s → SameRows A B → SameMerge (r >>= λ ys. Ok (A ++ ys)) (s >>= λ ys. Ok (B ++ ys))
+before (Ok xs) (Ok ys) A B h g = λ y.
+    let p = h y in
+    let r = g y in
+    let c = count_of-append y A xs in
+    let d = count_of-append y B ys in
+    omega arith
+before (Ok xs) (Err e) A B h g = h
+before (Err e) (Ok ys) A B h g = h
+before (Err e) (Err f) A B h g = h
+
+checked : (a : Option Row) (r s : Result (List Row) MergeFault) (D E : List Row) → SameMerge r s → SameRows D E
+    → SameMerge (unambiguous a >>= λ u. r >>= λ ys. Ok (ys ++ D)) (unambiguous a >>= λ u. s >>= λ ys. Ok (ys ++ E))
+checked None r s D E h k = behind r s D E h k
+checked (Some x) r s D E h k = refl
 
 added_same : (m : MergeSpec ℕ) (xs ys : List Row) → SameRows xs ys → added m xs ≡ added m ys
 added_same m xs ys same = ap (λ (l : List Row). if m.insert then l else []) (unmatched_same m.keys m.source xs ys same)
 
+pub given_same : (schema : TableSchema) (m : MergeSpec ℕ) (F G : List Row) → SameRows F G → SameMerge (gives schema m F) (gives schema m G)
+given_same schema m F G same =
+    let f = merge_step schema m in
+    subst (λ (a : Option Row). SameMerge (gives schema m F) (unambiguous a >>= λ u. merged_rows schema m G >>= λ zs. Ok (zs ++ added m G)))
+    (where_same (is_ambiguous m) F G same)
+    (checked (least_where (is_ambiguous m) F) (merged_rows schema m F) (merged_rows schema m G) (added m F) (added m G)
+    (ended_same (results f F) (results f G) (results_respect f F G same))
+    (λ y. ap (count_of y) (added_same m F G same)))
+
+pub scope_same : (schema : TableSchema) (m : MergeSpec ℕ) (xs ys : List Row) → SameRows (filter (in_scope m) xs) (filter (in_scope m) ys)
+    → SameMerge (gives schema m (filter (in_scope m) xs)) (gives schema m (filter (in_scope m) ys))
+scope_same schema m xs ys same = given_same schema m (filter (in_scope m) xs) (filter (in_scope m) ys) same
+
 pub merged_same : (schema : TableSchema) (m : MergeSpec ℕ) (xs ys : List Row) → SameRows xs ys → SameMerge (operated schema m xs) (operated schema m ys)
 merged_same schema m xs ys same =
-    let F = filter (in_scope m) xs in
-    let G = filter (in_scope m) ys in
-    let inside : SameRows F G = SameBag-filter row_eq row_decides (in_scope m) xs ys same in
-    let f = merge_step schema m in
-    subst (λ (a : Option Row). SameMerge (operated schema m xs) ((unambiguous a >>= λ u. merged_rows schema m G >>= λ zs. Ok (zs ++ added m G)) >>= λ zs. Ok (others (in_scope m) ys ++ zs)))
-    (where_same (is_ambiguous m) F G inside)
-    (checked (least_where (is_ambiguous m) F) (merged_rows schema m F) (merged_rows schema m G) (added m F) (added m G) (others (in_scope m) xs) (others (in_scope m) ys)
-    (ended_same (results f F) (results f G) (results_respect f F G inside))
-    (λ y. ap (count_of y) (added_same m F G inside))
-    (SameBag-filter row_eq row_decides (λ x. not (in_scope m x)) xs ys same))
+    before (gives schema m (filter (in_scope m) xs)) (gives schema m (filter (in_scope m) ys)) (others (in_scope m) xs) (others (in_scope m) ys)
+    (given_same schema m (filter (in_scope m) xs) (filter (in_scope m) ys) (SameBag-filter row_eq row_decides (in_scope m) xs ys same))
+    (SameBag-filter row_eq row_decides (λ x. not (in_scope m x)) xs ys same)

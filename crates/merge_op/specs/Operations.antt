@@ -41,6 +41,11 @@ SameMerge (Err e) (Err f) = e ≡ f
 abbrev pub BagsAreMerged : Type 0
 BagsAreMerged = (schema : TableSchema) (m : MergeSpec ℕ) (xs ys : List (List Datum)) → SameRows xs ys → SameMerge (operated schema m xs) (operated schema m ys)
 
+-- what comes in the place of the scope's rows needs these alone
+abbrev pub ScopeIsMerged : Type 0
+ScopeIsMerged = (schema : TableSchema) (m : MergeSpec ℕ) (xs ys : List (List Datum))
+    → SameRows (filter (in_scope m) xs) (filter (in_scope m) ys) → SameMerge (gives schema m (filter (in_scope m) xs)) (gives schema m (filter (in_scope m) ys))
+
 -- the rows of the files that stay, and those that come in the place of the removed ones, are what the merge makes of
 -- the rows of all files as a bag
 abbrev pub MergeIsOperated : Type 0

@@ -10,5 +10,5 @@ mod outcome;
 mod unmatched;
 
 pub use fault::MergeFault;
-pub use laws::{bags_are_merged, merge_is_operated};
+pub use laws::{bags_are_merged, merge_is_operated, scope_is_merged};
 pub use merge::{Merged, merge_files};

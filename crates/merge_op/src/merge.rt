@@ -119,6 +119,7 @@ fn added_rows(alloc: Global, op: &MergeOp, keyed: Keyed<'_>, files: &[ScannedFil
 /// insert clause adds the rows of the source that match none. The rows of files in which no row is changed are not
 /// among those of the answer. Where two rows of the source match one of the table, which a matched clause is to change,
 /// the least such row is the fault; else the least of which nothing comes.
+#[tactic(auto, using(crate::proofs::Widths::files_bound, crate::proofs::Widths::files_keyed, crate::proofs::Widths::source_keyed))]
 pub fn merge_files(alloc: Global, op: &MergeOp, schema: &Schema, files: Vec<ScannedFile>) -> Result<Merged, MergeFault>
     requires op { is_merge_bound (length schema.now.columns) op.now ≡ true }
     requires rows { list_all (λ f. list_all (λ r. length r == length schema.now.columns) f.rows) files.items ≡ true }

@@ -75,6 +75,7 @@ fn rows_left(alloc: Global, op: &MergeOp, keyed: &Keyed<'_>) -> Result<Rows, NoM
 }
 
 /// The rows of the source that match no row of these files.
+#[tactic(auto, using(crate::proofs::Keyings::left_is))]
 pub(crate) fn unmatched_rows(alloc: Global, op: &MergeOp, mut keyed: Keyed<'_>, files: &[ScannedFile]) -> Result<Rows, NoMemory>
     requires source { list_all (λ s. list_all (λ c. nat_lt c (length s)) op.now.keys) op.now.source ≡ true }
     requires files { list_all (λ f. list_all (λ r. list_all (λ c. nat_lt c (length r)) op.now.keys) f.rows) files.now ≡ true }
