@@ -61,11 +61,11 @@ merge_is schema m files =
     (rows_of f T) (rows_of f F) (added m all) (added m F) U O
     (sym (ambiguous_inside schema m all)) (sym (files_least schema m files) ∙ split_least schema m all)
     (λ y.
-        let a = files_rows schema m files y in
-        let b = split_rows schema m all y in
-        let c = count_of-append y U (rows_of f T ++ added m all) in
-        let d = count_of-append y (rows_of f T) (added m all) in
-        let e = count_of-append y O (rows_of f F ++ added m F) in
-        let g = count_of-append y (rows_of f F) (added m F) in
-        let h = ap (count_of y) (added_inside m all) in
-        omega arith)
+    let a = files_rows schema m files y in
+    let b = split_rows schema m all y in
+    let c = count_of-append y U (rows_of f T ++ added m all) in
+    let d = count_of-append y (rows_of f T) (added m all) in
+    let e = count_of-append y O (rows_of f F ++ added m F) in
+    let g = count_of-append y (rows_of f F) (added m F) in
+    let h = ap (count_of y) (added_inside m all) in
+    omega arith)

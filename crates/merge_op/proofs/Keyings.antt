@@ -180,7 +180,7 @@ module _ (keys : List ℕ) (source rows : List Row) (m n : BTreeMap Row Found) (
   all_left before (s ∷ rest) at =
       ap (λ (b : Bool). cond b (s ∷ filter (is_left keys n) rest) (filter (is_left keys n) rest)) (one_left before rest s at)
       ∙ ap (λ (l : List Row). cond (not (list_any (λ x. is_match keys x s) rows)) (s ∷ l) l)
-        (all_left (before ++ s ∷ []) rest (at ∙ sym (append_assoc before (s ∷ []) rest)))
+      (all_left (before ++ s ∷ []) rest (at ∙ sym (append_assoc before (s ∷ []) rest)))
 
   pub left_is : filter (is_left keys n) source ≡ unmatched keys source rows
   left_is = all_left [] source refl

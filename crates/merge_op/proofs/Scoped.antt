@@ -187,7 +187,7 @@ module _ (m : MergeSpec ℕ) where
       let more = unmatched m.keys rest (filter (in_scope m) rows) in
       ap (λ (t : Bool). cond (not t) (s ∷ more) more) (any_inside before rest s at rows)
       ∙ ap (λ (l : List Row). cond (not (list_any (λ x. is_match m.keys x s) rows)) (s ∷ l) l)
-        (left_inside rows (before ++ s ∷ []) rest (at ∙ sym (append_assoc before (s ∷ []) rest)))
+      (left_inside rows (before ++ s ∷ []) rest (at ∙ sym (append_assoc before (s ∷ []) rest)))
 
   pub added_inside : (rows : List Row) → added m (filter (in_scope m) rows) ≡ added m rows
   added_inside rows = ap (λ (l : List Row). if m.insert then l else []) (left_inside rows [] m.source refl)

@@ -12,7 +12,12 @@ use row_base::{Datum, NoMemory, Row, Rows, ScannedFile, cmp_rows};
 use std::alloc::Global;
 
 /// A row that two rows of the source match, where a clause changes matched rows.
-fn is_ambiguous(alloc: Global, op: &MergeOp, keyed: &Keyed<'_>, row: &[Datum]) -> Result<bool, NoMemory>
+fn is_ambiguous(
+    alloc: Global,
+    op: &MergeOp,
+    keyed: &Keyed<'_>,
+    row: &[Datum],
+) -> Result<bool, NoMemory>
     requires bound { is_merge_bound (length row.now) op.now ≡ true }
     requires keyed { IsKeyed op.now.keys op.now.source keyed.now }
     ensures { IfOk result (λ b. b ≡ spec.is_ambiguous op.now row.now) }

@@ -80,7 +80,11 @@ fn found_with<'a>(found: Option<&Found<'a>>, row: &'a [Datum]) -> Found<'a>
 
 /// The rows of a source by their keys.
 #[tactic(auto, using(crate::proofs::Keyings::first_is))]
-pub(crate) fn keyed<'a>(alloc: Global, keys: &[u32], source: &'a Rows) -> Result<Keyed<'a>, NoMemory>
+pub(crate) fn keyed<'a>(
+    alloc: Global,
+    keys: &[u32],
+    source: &'a Rows,
+) -> Result<Keyed<'a>, NoMemory>
     requires { list_all (λ s. list_all (λ c. nat_lt c (length s)) keys.now) source.now ≡ true }
     ensures { IfOk result (λ m. IsKeyed keys.now source.now m) }
 {
@@ -102,7 +106,12 @@ pub(crate) fn under<'a>(keyed: &Keyed<'a>, key: &Row) -> Option<Found<'a>>
 
 /// The first row of the source that matches a row, and whether there is another one.
 #[tactic(auto, using(crate::proofs::Keyings::none_found, crate::proofs::Keyings::key_found, crate::proofs::Keyings::found_wide))]
-pub(crate) fn match_of<'a>(alloc: Global, op: &MergeOp, keyed: &Keyed<'a>, row: &[Datum]) -> Result<Option<Found<'a>>, NoMemory>
+pub(crate) fn match_of<'a>(
+    alloc: Global,
+    op: &MergeOp,
+    keyed: &Keyed<'a>,
+    row: &[Datum],
+) -> Result<Option<Found<'a>>, NoMemory>
     requires bound { is_merge_bound (length row.now) op.now ≡ true }
     requires keyed { IsKeyed op.now.keys op.now.source keyed.now }
     ensures found { IfOk result (λ o. found_view o ≡ spec.match_of op.now row.now) }

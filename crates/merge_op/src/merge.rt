@@ -86,7 +86,12 @@ fn merge_touched(
 }
 
 /// That no row of these files is ambiguous, or the least one that is.
-fn check_ambiguous(alloc: Global, op: &MergeOp, keyed: &Keyed<'_>, files: &[ScannedFile]) -> Result<(), MergeFault>
+fn check_ambiguous(
+    alloc: Global,
+    op: &MergeOp,
+    keyed: &Keyed<'_>,
+    files: &[ScannedFile],
+) -> Result<(), MergeFault>
     requires bound { list_all (λ f. list_all (λ r. is_merge_bound (length r) op.now) f.rows) files.now ≡ true }
     requires keyed { IsKeyed op.now.keys op.now.source keyed.now }
     ensures { Reads is_merge_memory result (spec.unambiguous (spec.least_where (spec.is_ambiguous op.now) (spec.rows_in files.now))) }
@@ -100,7 +105,12 @@ fn check_ambiguous(alloc: Global, op: &MergeOp, keyed: &Keyed<'_>, files: &[Scan
 }
 
 /// The rows that the insert clause adds.
-fn added_rows(alloc: Global, op: &MergeOp, keyed: Keyed<'_>, files: &[ScannedFile]) -> Result<Rows, NoMemory>
+fn added_rows(
+    alloc: Global,
+    op: &MergeOp,
+    keyed: Keyed<'_>,
+    files: &[ScannedFile],
+) -> Result<Rows, NoMemory>
     requires source { list_all (λ s. list_all (λ c. nat_lt c (length s)) op.now.keys) op.now.source ≡ true }
     requires files { list_all (λ f. list_all (λ r. list_all (λ c. nat_lt c (length r)) op.now.keys) f.rows) files.now ≡ true }
     requires keyed { IsKeyed op.now.keys op.now.source keyed }
@@ -120,7 +130,12 @@ fn added_rows(alloc: Global, op: &MergeOp, keyed: Keyed<'_>, files: &[ScannedFil
 /// among those of the answer. Where two rows of the source match one of the table, which a matched clause is to change,
 /// the least such row is the fault; else the least of which nothing comes.
 #[tactic(auto, using(crate::proofs::Widths::files_bound, crate::proofs::Widths::files_keyed, crate::proofs::Widths::source_keyed))]
-pub fn merge_files(alloc: Global, op: &MergeOp, schema: &Schema, files: Vec<ScannedFile>) -> Result<Merged, MergeFault>
+pub fn merge_files(
+    alloc: Global,
+    op: &MergeOp,
+    schema: &Schema,
+    files: Vec<ScannedFile>,
+) -> Result<Merged, MergeFault>
     requires op { is_merge_bound (length schema.now.columns) op.now ≡ true }
     requires rows { list_all (λ f. list_all (λ r. length r == length schema.now.columns) f.rows) files.items ≡ true }
     ensures { Reads is_merge_memory result (spec.merged schema.now op.now files.items) }

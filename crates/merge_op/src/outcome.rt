@@ -35,7 +35,11 @@ fn source_of<'a>(found: Option<Found<'a>>) -> &'a [Datum]
 }
 
 /// The change of a row beside what matches it.
-fn change_by<'a>(op: &'a MergeOp, found: Option<Found<'_>>, row: &[Datum]) -> Option<&'a Change<u32>>
+fn change_by<'a>(
+    op: &'a MergeOp,
+    found: Option<Found<'_>>,
+    row: &[Datum],
+) -> Option<&'a Change<u32>>
     requires bound { is_merge_bound (length row.now) op.now ≡ true }
     requires wide { IfSome found (λ f. length f.row.now ≡ length row.now) }
     ensures change { option_copied result ≡ spec.change_by op.now row.now (found_view found) }
@@ -119,7 +123,12 @@ pub(crate) fn merge_rows(
 }
 
 /// Whether a clause changes a row.
-fn is_changed(alloc: Global, op: &MergeOp, keyed: &Keyed<'_>, row: &[Datum]) -> Result<bool, NoMemory>
+fn is_changed(
+    alloc: Global,
+    op: &MergeOp,
+    keyed: &Keyed<'_>,
+    row: &[Datum],
+) -> Result<bool, NoMemory>
     requires bound { is_merge_bound (length row.now) op.now ≡ true }
     requires keyed { IsKeyed op.now.keys op.now.source keyed.now }
     ensures { IfOk result (λ b. b ≡ is_some (spec.change_of op.now row.now)) }
@@ -129,7 +138,12 @@ fn is_changed(alloc: Global, op: &MergeOp, keyed: &Keyed<'_>, row: &[Datum]) -> 
 }
 
 /// Whether a clause changes one of these rows.
-pub(crate) fn any_changed(alloc: Global, op: &MergeOp, keyed: &Keyed<'_>, rows: &Rows) -> Result<bool, NoMemory>
+pub(crate) fn any_changed(
+    alloc: Global,
+    op: &MergeOp,
+    keyed: &Keyed<'_>,
+    rows: &Rows,
+) -> Result<bool, NoMemory>
     requires bound { list_all (λ r. is_merge_bound (length r) op.now) rows.now ≡ true }
     requires keyed { IsKeyed op.now.keys op.now.source keyed.now }
     ensures { IfOk result (λ b. b ≡ list_any (λ x. is_some (spec.change_of op.now x)) rows.now) }

@@ -15,7 +15,12 @@ use row_base::{Datum, NoMemory, Rows, ScannedFile};
 use std::alloc::Global;
 
 /// Takes out what stands under the key of a row.
-fn forget_row(alloc: Global, keys: &[u32], row: &[Datum], keyed: &mut Keyed<'_>) -> Result<(), NoMemory>
+fn forget_row(
+    alloc: Global,
+    keys: &[u32],
+    row: &[Datum],
+    keyed: &mut Keyed<'_>,
+) -> Result<(), NoMemory>
     requires { list_all (λ c. nat_lt c (length row.now)) keys.now ≡ true }
     ensures { OnOk result ((q : List Datum) → get row_cmp keyed.new q ≡ (if has_key keys.now q row.now then None else get row_cmp keyed.old q)) }
 {
@@ -27,7 +32,12 @@ fn forget_row(alloc: Global, keys: &[u32], row: &[Datum], keyed: &mut Keyed<'_>)
 }
 
 /// Takes out what stands under the keys of these rows.
-fn forget_rows(alloc: Global, keys: &[u32], rows: &Rows, keyed: &mut Keyed<'_>) -> Result<(), NoMemory>
+fn forget_rows(
+    alloc: Global,
+    keys: &[u32],
+    rows: &Rows,
+    keyed: &mut Keyed<'_>,
+) -> Result<(), NoMemory>
     requires { list_all (λ r. list_all (λ c. nat_lt c (length r)) keys.now) rows.now ≡ true }
     ensures { OnOk result ((q : List Datum) → get row_cmp keyed.new q ≡ (if list_any (has_key keys.now q) rows.now then None else get row_cmp keyed.old q)) }
 {
@@ -38,7 +48,12 @@ fn forget_rows(alloc: Global, keys: &[u32], rows: &Rows, keyed: &mut Keyed<'_>) 
 }
 
 /// Takes out what stands under the keys of the rows of these files.
-fn forget_files(alloc: Global, keys: &[u32], files: &[ScannedFile], keyed: &mut Keyed<'_>) -> Result<(), NoMemory>
+fn forget_files(
+    alloc: Global,
+    keys: &[u32],
+    files: &[ScannedFile],
+    keyed: &mut Keyed<'_>,
+) -> Result<(), NoMemory>
     requires { list_all (λ f. list_all (λ r. list_all (λ c. nat_lt c (length r)) keys.now) f.rows) files.now ≡ true }
     ensures { OnOk result ((q : List Datum) → get row_cmp keyed.new q ≡ (if list_any (has_key keys.now q) (rows_in files.now) then None else get row_cmp keyed.old q)) }
 {
@@ -76,7 +91,12 @@ fn rows_left(alloc: Global, op: &MergeOp, keyed: &Keyed<'_>) -> Result<Rows, NoM
 
 /// The rows of the source that match no row of these files.
 #[tactic(auto, using(crate::proofs::Keyings::left_is))]
-pub(crate) fn unmatched_rows(alloc: Global, op: &MergeOp, mut keyed: Keyed<'_>, files: &[ScannedFile]) -> Result<Rows, NoMemory>
+pub(crate) fn unmatched_rows(
+    alloc: Global,
+    op: &MergeOp,
+    mut keyed: Keyed<'_>,
+    files: &[ScannedFile],
+) -> Result<Rows, NoMemory>
     requires source { list_all (λ s. list_all (λ c. nat_lt c (length s)) op.now.keys) op.now.source ≡ true }
     requires files { list_all (λ f. list_all (λ r. list_all (λ c. nat_lt c (length r)) op.now.keys) f.rows) files.now ≡ true }
     requires keyed { IsKeyed op.now.keys op.now.source keyed }

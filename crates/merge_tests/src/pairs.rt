@@ -186,7 +186,9 @@ fn seen(merged: Result<Merged, MergeFault>, removed: &str, rows: &[Pair], row: P
         }
         Err(MergeFault::Ambiguous { row: at }) if is_pair(at.as_slice(), row) => Outcome::Ambiguous,
         Err(MergeFault::Overflow { row: at }) if is_pair(at.as_slice(), row) => Outcome::Overflow,
-        Err(MergeFault::Row { row: at, fault }) if is_pair(at.as_slice(), row) => Outcome::Row(fault),
+        Err(MergeFault::Row { row: at, fault }) if is_pair(at.as_slice(), row) => Outcome::Row(
+            fault,
+        ),
         Err(MergeFault::NoMemory) => Outcome::NoMemory,
         Err(_) => Outcome::Elsewhere,
     }
@@ -204,13 +206,24 @@ pub fn rows_come(
     requires { IfOk op (λ m. is_merge_bound 2 m ≡ true) }
 {
     match op {
-        Ok(op) => seen(merge(alloc, &op, first, second), removed, rows, (None, None)),
+        Ok(op) => seen(
+            merge(alloc, &op, first, second),
+            removed,
+            rows,
+            (None, None),
+        ),
         Err(_) => Outcome::NoMemory,
     }
 }
 
 /// What comes of a merge into two files, where a fault of this row is expected.
-pub fn row_fails(alloc: Global, op: Result<MergeOp, NoMemory>, first: &[Pair], second: &[Pair], row: Pair) -> Outcome
+pub fn row_fails(
+    alloc: Global,
+    op: Result<MergeOp, NoMemory>,
+    first: &[Pair],
+    second: &[Pair],
+    row: Pair,
+) -> Outcome
     requires { IfOk op (λ m. is_merge_bound 2 m ≡ true) }
 {
     match op {

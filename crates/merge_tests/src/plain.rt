@@ -63,7 +63,12 @@ fn is_changed(clauses: Clauses, source: &[Pair], rows: &[Pair]) -> bool {
 }
 
 /// Puts what comes of the rows of a file, where a clause changes one of them.
-fn put_file(clauses: Clauses, source: &[Pair], rows: &[Pair], out: &mut Vec<Pair>) -> Result<(), NoMemory> {
+fn put_file(
+    clauses: Clauses,
+    source: &[Pair],
+    rows: &[Pair],
+    out: &mut Vec<Pair>,
+) -> Result<(), NoMemory> {
     if is_changed(clauses, source, rows) {
         for row in rows {
             match becomes(clauses, source, row) {
@@ -99,7 +104,12 @@ fn least(source: &[Pair], rows: &[Pair], first: Option<Pair>) -> Option<Pair> {
 }
 
 /// Puts the rows of the source that match no row of the files.
-fn put_unmatched(source: &[Pair], first: &[Pair], second: &[Pair], out: &mut Vec<Pair>) -> Result<(), NoMemory> {
+fn put_unmatched(
+    source: &[Pair],
+    first: &[Pair],
+    second: &[Pair],
+    out: &mut Vec<Pair>,
+) -> Result<(), NoMemory> {
     for row in source {
         if count(first, row) == 0 && count(second, row) == 0 {
             out.push(*row)?;
@@ -109,7 +119,10 @@ fn put_unmatched(source: &[Pair], first: &[Pair], second: &[Pair], out: &mut Vec
 }
 
 fn removed(clauses: Clauses, source: &[Pair], first: &[Pair], second: &[Pair]) -> &'static str {
-    match (is_changed(clauses, source, first), is_changed(clauses, source, second)) {
+    match (
+        is_changed(clauses, source, first),
+        is_changed(clauses, source, second),
+    ) {
         (true, true) => "a b",
         (true, false) => "a",
         (false, true) => "b",
@@ -117,7 +130,13 @@ fn removed(clauses: Clauses, source: &[Pair], first: &[Pair], second: &[Pair]) -
     }
 }
 
-fn expected(alloc: Global, clauses: Clauses, source: &[Pair], first: &[Pair], second: &[Pair]) -> Result<Expected, NoMemory> {
+fn expected(
+    alloc: Global,
+    clauses: Clauses,
+    source: &[Pair],
+    first: &[Pair],
+    second: &[Pair],
+) -> Result<Expected, NoMemory> {
     let mut rows = Vec::new(alloc);
     put_file(clauses, source, first, &mut rows)?;
     put_file(clauses, source, second, &mut rows)?;
@@ -164,11 +183,29 @@ fn op_of(alloc: Global, clauses: Clauses, source: &[Pair]) -> Result<MergeOp, No
 }
 
 /// Whether a merge comes to what is expected.
-fn agrees(alloc: Global, clauses: Clauses, source: &[Pair], first: &[Pair], second: &[Pair]) -> bool {
+fn agrees(
+    alloc: Global,
+    clauses: Clauses,
+    source: &[Pair],
+    first: &[Pair],
+    second: &[Pair],
+) -> bool {
     let op = op_of(alloc, clauses, source);
     match expected(alloc, clauses, source, first, second) {
-        Ok(Expected { ambiguous: Some(row), .. }) => row_fails(alloc, op, first, second, row) == Outcome::Ambiguous,
-        Ok(expected) => rows_come(alloc, op, first, second, expected.removed, expected.rows.as_slice()) == Outcome::Merged,
+        Ok(
+            Expected {
+                ambiguous: Some(row),
+                ..
+            },
+        ) => row_fails(alloc, op, first, second, row) == Outcome::Ambiguous,
+        Ok(expected) => rows_come(
+            alloc,
+            op,
+            first,
+            second,
+            expected.removed,
+            expected.rows.as_slice(),
+        ) == Outcome::Merged,
         Err(_) => false,
     }
 }
@@ -178,7 +215,11 @@ fn all_agree(alloc: Global, source: &[Pair], first: &[Pair], second: &[Pair]) ->
     for matched in [Becomes::Itself, Becomes::Nothing, Becomes::Set] {
         for others in [Becomes::Itself, Becomes::Nothing, Becomes::Set] {
             for insert in [false, true] {
-                let clauses = Clauses { matched, insert, others };
+                let clauses = Clauses {
+                    matched,
+                    insert,
+                    others,
+                };
                 if !agrees(alloc, clauses, source, first, second) {
                     return false;
                 }
@@ -211,7 +252,10 @@ fn merges_come_to_what_is_described(rt: HostRuntime) -> Result<(), Fail> {
             let source = rows(at, count);
             for first in 0..5usize {
                 let (left, right) = (rows(first, 2), rows(3, count));
-                assert!(rt; all_agree(alloc, source, left, right), "at {at}, {count}, {first}");
+                assert!(rt;
+                    all_agree(alloc, source, left, right),
+                    "at {at}, {count}, {first}"
+                );
             }
         }
     }
