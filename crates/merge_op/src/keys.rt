@@ -3,6 +3,7 @@ ghost use Rattle.std.specs.Prelude.{◌≡◌, ◌<◌, ◌==◌, true, nat_lt, 
 ghost use Rattle.std.specs.BTreeMap.{get};
 ghost use Rattle.std.specs.List.{list_all, list_any};
 ghost use Rattle.row_base.specs.RowOrder.{row_cmp};
+ghost use Rattle.predicates.specs.Truths;
 ghost use Rattle.op_types.specs.Bound.{is_merge_bound};
 ghost use Rattle.merge_op.specs.Matches.{key_data, has_null};
 ghost use Rattle.merge_op.specs.Merges as spec;
@@ -26,13 +27,13 @@ pub type Keyed<'a> = BTreeMap<Row, Found<'a>>;
 /// What stands in a column.
 fn cell(row: &[Datum], column: u32) -> &Datum
     requires { column < length row.now }
-    ensures { result.now ≡ Rattle.predicates.specs.Truths.cell row.now column }
+    ensures { result.now ≡ Truths.cell row.now column }
 {
     &row[column as usize]
 }
 
 fn is_null(datum: &Datum) -> bool
-    ensures { result ≡ Rattle.predicates.specs.Truths.is_null datum.now }
+    ensures { result ≡ Truths.is_null datum.now }
 {
     matches!(datum, Datum::Null)
 }
@@ -64,7 +65,7 @@ pub(crate) fn key_of(alloc: Global, keys: &[u32], row: &[Datum]) -> Result<Row, 
 
 /// What stands under a key once this row has come.
 fn found_with<'a>(found: Option<&Found<'a>>, row: &'a [Datum]) -> Found<'a>
-    ensures { Some (result.row.now, result.several) ≡ with_row (found_view (option_copied found)) row.now }
+    ensures { Some (result.row.now, result.several) ≡ with_row (found_view (option_copied found.entry)) row.now }
 {
     match found {
         Some(first) => Found {

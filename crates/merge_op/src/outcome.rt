@@ -26,7 +26,7 @@ fn change_by_source<'a>(clause: &'a Option<BySource<u32>>, row: &[Datum]) -> Opt
 
 /// The source row that a change sees, or no data.
 fn source_of<'a>(found: Option<Found<'a>>) -> &'a [Datum]
-    ensures { result.now ≡ spec.source_of (found_view found) }
+    ensures { result.now ≡ spec.source_of (found_view found.entry) }
 {
     match found {
         Some(found) => found.row,
@@ -42,8 +42,8 @@ fn change_by<'a>(
 ) -> Option<&'a Change<u32>>
     requires bound { is_merge_bound (length row.now) op.now ≡ true }
     requires wide { IfSome found (λ f. length f.row.now ≡ length row.now) }
-    ensures change { option_copied result ≡ spec.change_by op.now row.now (found_view found) }
-    ensures bound { IfSome result (λ c. is_change_bound (length row.now) (length (spec.source_of (found_view found))) c.now ≡ true) }
+    ensures change { option_copied result ≡ spec.change_by op.now row.now (found_view found.entry) }
+    ensures bound { IfSome result (λ c. is_change_bound (length row.now) (length (spec.source_of (found_view found.entry))) c.now ≡ true) }
 {
     match found {
         Some(_) => op.matched.as_ref(),

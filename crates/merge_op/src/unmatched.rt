@@ -5,7 +5,7 @@ ghost use Rattle.std.specs.List.{list_all, list_any};
 ghost use Rattle.row_base.specs.RowOrder.{row_cmp};
 ghost use Rattle.row_base.specs.declared.row.Datum.{Datum};
 ghost use Rattle.op_types.specs.Bound.{is_merge_bound};
-ghost use Rattle.merge_op.specs.Found.{IsKeyed, has_key, is_left, IsLeft};
+ghost use Rattle.merge_op.specs.Found.{IsKeyed, has_key, is_left};
 ghost use Rattle.merge_op.specs.Matches.{unmatched};
 ghost use Rattle.merge_op.specs.Merges.{rows_in};
 
