@@ -46,7 +46,7 @@ beside_null (Text t) e = refl
 beside_null (Date n) e = refl
 
 -- a comparison, by whether its sides are null
-equal_by : (n m t : Bool) → Bool
+abbrev equal_by : (n m t : Bool) → Bool
 equal_by n m t = is_yes (if n then Unknown else (if m then Unknown else certain t))
 
 one_column : (a b : Datum) → is_null a ≡ false → is_yes (compared op.Eq a b) ≡ is_eq (datum_cmp b a)

@@ -123,13 +123,31 @@ fn added_rows(
     }
 }
 
+/// What a merge makes of these files.
+#[tactic(auto, using(crate::proofs::Widths::files_bound, crate::proofs::Widths::files_keyed, crate::proofs::Widths::source_keyed))]
+fn merge_scanned(
+    alloc: Global,
+    op: &MergeOp,
+    schema: &Schema,
+    files: &[ScannedFile],
+) -> Result<Merged, MergeFault>
+    requires op { is_merge_bound (length schema.now.columns) op.now ≡ true }
+    requires rows { list_all (λ f. list_all (λ r. length r == length schema.now.columns) f.rows) files.now ≡ true }
+    ensures { Reads is_merge_memory result (spec.merged schema.now op.now files.now) }
+{
+    let keyed = keyed(alloc, op.keys.as_slice(), &op.source)?;
+    check_ambiguous(alloc, op, &keyed, files)?;
+    let Merged { removed, mut rows } = merge_touched(alloc, op, schema, &keyed, files)?;
+    rows.append(added_rows(alloc, op, keyed, files)?)?;
+    Ok(Merged { removed, rows })
+}
+
 /// What a merge makes of the files of a table that may have rows of its scope. A row of the table matches one of the
 /// source where each key column is equal and null in neither. The matched clause changes the rows that one of the
 /// source matches, the clause of the others those that none matches and for which its predicate is `Yes`, and the
 /// insert clause adds the rows of the source that match none. The rows of files in which no row is changed are not
 /// among those of the answer. Where two rows of the source match one of the table, which a matched clause is to change,
 /// the least such row is the fault; else the least of which nothing comes.
-#[tactic(auto, using(crate::proofs::Widths::files_bound, crate::proofs::Widths::files_keyed, crate::proofs::Widths::source_keyed))]
 pub fn merge_files(
     alloc: Global,
     op: &MergeOp,
@@ -140,9 +158,5 @@ pub fn merge_files(
     requires rows { list_all (λ f. list_all (λ r. length r == length schema.now.columns) f.rows) files.items ≡ true }
     ensures { Reads is_merge_memory result (spec.merged schema.now op.now files.items) }
 {
-    let keyed = keyed(alloc, op.keys.as_slice(), &op.source)?;
-    check_ambiguous(alloc, op, &keyed, &files)?;
-    let Merged { removed, mut rows } = merge_touched(alloc, op, schema, &keyed, &files)?;
-    rows.append(added_rows(alloc, op, keyed, &files)?)?;
-    Ok(Merged { removed, rows })
+    merge_scanned(alloc, op, schema, files.as_slice())
 }
