@@ -17,13 +17,10 @@ use Rattle.call_phases.specs.declared.puts.PutFault.TheVariants as put
 use Rattle.call_phases.specs.Called.{called_now, called_list, called_replace, called_wait}
 use Rattle.call_phases.specs.Endings.{IsOpenEnd, HasFailed, EndsAs, Then}
 use Rattle.call_phases.specs.Machine.{IsStopped}
-use Rattle.call_phases.specs.Clock.{ReadsClock}
-use Rattle.call_phases.specs.List.{ListsNames}
+use Rattle.call_phases.specs.Requests.{ReadsClock, ListsNames, Replaces, WaitsFor}
 use Rattle.call_phases.specs.Gets.{AtGets, GetsAll}
 use Rattle.call_phases.specs.Puts.{AtPuts, PutsAll}
-use Rattle.call_phases.specs.Put.{Replaces}
 use Rattle.call_phases.specs.Delete.{AtDeletes, DeletesAll}
-use Rattle.call_phases.specs.Wait.{WaitsFor}
 use Rattle.call_phases.proofs.Follow.{map_now, map_list, map_replace, map_wait}
 use Rattle.call_phases.proofs.FollowLists.{map_gets, map_puts, map_deletes}
 

@@ -6,7 +6,7 @@ ghost use Rattle.call_phases.specs.declared.fault.CallFault.{CallFault as AFault
 ghost use Rattle.call_phases.specs.Delete.{DeletesAll, call_at, left_at, RestAt};
 
 use crate::{CallFault, CallStage, Ready};
-use edge_api::{Answer, Call, CallKind, Called, Name};
+use edge_api::{Answer, Call, CallKind, Name};
 use std::collections::VecDeque;
 
 /// Where the deletions stand.
@@ -68,12 +68,7 @@ impl CallStage for DeleteStage {
         };
         match answer {
             Answer::Gone => Delete::new(left),
-            _ => Ready::no_call(DeleteStage::Failed(CallFault::Fault {
-                call: Called {
-                    kind: CallKind::Delete,
-                    name,
-                },
-            })),
+            _ => Ready::no_call(DeleteStage::Failed(CallFault::of(CallKind::Delete, name))),
         }
     }
 

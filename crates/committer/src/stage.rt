@@ -4,10 +4,10 @@ ghost use Rattle.committer.specs.Machine.{call_at};
 ghost use Rattle.committer.specs.Steps.{ahead_of, or_no_memory, result_of};
 
 use crate::progress::Commit;
-use crate::{AttemptFault, Bodies, Landed};
+use crate::{AttemptFault, Landed};
 use call_phases::{Reading, Ready};
 use edge_api::{Body, Call};
-use row_base::NoMemory;
+use row_base::{Items, NoMemory};
 use std::alloc::Global;
 
 /// A commit that is put.
@@ -111,7 +111,7 @@ pub fn ended<C: Drop>(
             version,
             attempts,
             now,
-            winners: Bodies::from_vec(winners),
+            winners: Items::from_vec(winners),
         }),
         Stage::Failed(fault) => Err(fault),
         _ => unreachable!(),

@@ -9,7 +9,7 @@ mod words;
 
 use crate::top::{Finished, run};
 use edge_api::{Gate, StdSink, StdSource, Tag};
-use script_runs::{Status, given_words, new_store, say};
+use script_runs::{new_store, words_or_status};
 use std::process::ExitCode;
 
 /// A gate that keeps nobody.
@@ -25,9 +25,9 @@ fn main(rt: HostRuntime) -> ExitCode {
     let mut source = StdSource::new(rt.stdin());
     let mut sink = StdSink::new(rt.stdout());
     let mut errors = StdSink::new(rt.stderr());
-    let Ok(words) = given_words(&rt) else {
-        say(&mut errors, Status::NoMemory.fixed_text());
-        return ExitCode::from(Status::NoMemory.code());
+    let words = match words_or_status(&rt, &mut errors) {
+        Ok(words) => words,
+        Err(status) => return ExitCode::from(status),
     };
     let world = new_store(rt.alloc());
     let Finished { status, .. } = run(

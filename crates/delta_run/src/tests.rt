@@ -58,20 +58,44 @@ fn step_bytes(alloc: Global, bytes: Vec<u8>, read: u32, write: u32) -> Result<Ou
 const TWO_ROWS: &str =
     "table (id long not null, v long not null)\nsession a\ninsert (1, 10), (2, 20)\nselect\n";
 
-#[test]
-fn one_session_inserts_and_selects(rt: HostRuntime) -> Result<(), Fail> {
-    let output = step(rt.alloc(), TWO_ROWS, 0, 0)?;
-    let wanted =
-        "table 1 created 0\na 1 committed 1 read 0 attempts 1\na 2 rows 2 version 1 files 1 of 1\n(1, 10)\n(2, 20)\n";
-    assert!(rt; output.is(0, wanted, ""));
-    Ok(())
-}
+/// Scripts, each with the status of its run, its replies and its errors.
+const RUNS: [(&str, u8, &str, &str); 4] = [
+    // one session inserts and selects
+    (
+        TWO_ROWS,
+        0,
+        "table 1 created 0\na 1 committed 1 read 0 attempts 1\na 2 rows 2 version 1 files 1 of 1\n(1, 10)\n(2, 20)\n",
+        "",
+    ),
+    // a line without a form is named
+    (
+        "table (id long not null)\nsession a\ndelete\n",
+        3,
+        "",
+        "script: line 3 form\n",
+    ),
+    // a lost put is rebased
+    (
+        "table (id long not null)\nsession a\ninsert (1)\nsession b\ninsert (2)\nschedule\na@ b! a!\n",
+        0,
+        "table 1 created 0\na 1 committed 2 read 0 attempts 2\nb 1 committed 1 read 0 attempts 1\n",
+        "",
+    ),
+    // the limit of attempts is kept
+    (
+        "attempts 1\ntable (id long not null)\nsession a\ninsert (1)\nsession b\ninsert (2)\nschedule\na@ b! b! a!\n",
+        0,
+        "table 1 created 0\na 1 refused 8 attempts 1\nb 1 committed 1 read 0 attempts 1\n",
+        "",
+    ),
+];
 
 #[test]
-fn a_line_without_a_form_is_named(rt: HostRuntime) -> Result<(), Fail> {
-    let script = "table (id long not null)\nsession a\ndelete\n";
-    let output = step(rt.alloc(), script, 0, 0)?;
-    assert!(rt; output.is(3, "", "script: line 3 form\n"));
+fn scripts_have_these_runs(rt: HostRuntime) -> Result<(), Fail> {
+    for (script, status, text, errors) in RUNS {
+        let output = step(rt.alloc(), script, 0, 0)?;
+        assert!(rt; output.is(status, text, errors), "{script}");
+    }
     Ok(())
 }
 
@@ -81,27 +105,6 @@ fn faults_of_the_streams_are_told(rt: HostRuntime) -> Result<(), Fail> {
     assert!(rt; output.is(4, "", "read failed\n"));
     let output = step(rt.alloc(), TWO_ROWS, 0, 1)?;
     assert!(rt; output.is(5, "", "write failed\n"));
-    Ok(())
-}
-
-#[test]
-fn a_lost_put_is_rebased(rt: HostRuntime) -> Result<(), Fail> {
-    let script =
-        "table (id long not null)\nsession a\ninsert (1)\nsession b\ninsert (2)\nschedule\na@ b! a!\n";
-    let output = step(rt.alloc(), script, 0, 0)?;
-    let wanted =
-        "table 1 created 0\na 1 committed 2 read 0 attempts 2\nb 1 committed 1 read 0 attempts 1\n";
-    assert!(rt; output.is(0, wanted, ""));
-    Ok(())
-}
-
-#[test]
-fn the_limit_of_attempts_is_kept(rt: HostRuntime) -> Result<(), Fail> {
-    let script =
-        "attempts 1\ntable (id long not null)\nsession a\ninsert (1)\nsession b\ninsert (2)\nschedule\na@ b! b! a!\n";
-    let output = step(rt.alloc(), script, 0, 0)?;
-    let wanted = "table 1 created 0\na 1 refused 8 attempts 1\nb 1 committed 1 read 0 attempts 1\n";
-    assert!(rt; output.is(0, wanted, ""));
     Ok(())
 }
 

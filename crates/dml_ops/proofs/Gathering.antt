@@ -1,5 +1,5 @@
 -- A row more of those whose outcomes are gathered.
-use Rattle.std.proofs.Common.{◌≡◌, Bool, true, false, ◌&&◌, List, [], ◌∷◌, ◌++◌, refl, sym, ◌∙◌, ap, append_assoc}
+use Rattle.std.proofs.Common.{◌≡◌, Bool, true, false, ◌&&◌, List, [], ◌∷◌, ◌++◌, sym, ◌∙◌, ap, append_assoc}
 use Rattle.std.specs.Prelude.{Option}
 use Rattle.std.specs.List.{list_all}
 use Rattle.row_base.specs.declared.row.Datum.{Datum}
@@ -28,13 +28,3 @@ second false b e = absurd cc
 
 pub all_step : (P : Row → Bool) (row : Row) (left rest : List Row) → left ≡ row ∷ rest → list_all P left ≡ true → list_all P rest ≡ true
 all_step P row left rest at all = second (P row) (list_all P rest) (sym (ap (list_all P) at) ∙ all)
-
--- what all pass of two tests
-pub all_first : (P Q : Row → Bool) (rows : List Row) → list_all (λ r. P r && Q r) rows ≡ true → list_all P rows ≡ true
-all_first P Q [] all = refl
-all_first P Q (x ∷ rows) all = by (P x) (Q x) all (all_first P Q rows)
-  where
-    by : (a b : Bool) → ((a && b) && list_all (λ r. P r && Q r) rows) ≡ true → (list_all (λ r. P r && Q r) rows ≡ true → list_all P rows ≡ true) → (a && list_all P rows) ≡ true
-    by true true all rest = rest all
-    by true false all rest = absurd cc
-    by false b all rest = absurd cc

@@ -7,3 +7,4 @@ pub mod Told
 mod Together
 pub mod Untouched
 pub mod Widths
+mod Passing

@@ -1,7 +1,6 @@
 //! A delete, an update or an insert select on the rows of a file.
-ghost use Rattle.std.specs.Prelude.{◌≡◌, ◌&&◌, ◌++◌, true, length, [], IfOk, OnOk};
+ghost use Rattle.std.specs.Prelude.{◌≡◌, ◌&&◌, ◌++◌, ◌∷◌, true, length, [], if◌then◌else◌, IfOk, OnOk};
 ghost use Rattle.std.specs.List.{list_all, list_any};
-ghost use Rattle.row_base.specs.Bags.{others};
 ghost use Rattle.row_base.specs.Faults.{Reads};
 ghost use Rattle.predicates.specs.Truths.{is_bound};
 ghost use Rattle.predicates.specs.Values.{is_expr_bound};
@@ -34,55 +33,42 @@ pub fn passes(pred: &Scope, row: &[Datum]) -> bool
     pred.truth(row) == Truth::Yes
 }
 
-/// Whether one of these rows is in the scope.
-fn any_passes(pred: &Scope, rows: &Rows) -> bool
-    requires { list_all (λ r. is_bound (length r) pred.now) rows.now ≡ true }
-    ensures { result ≡ list_any (spec.passes pred.now) rows.now }
+/// Takes a row of a file that is not in the scope, by move, and says whether it is.
+fn delete_row(pred: &Scope, row: &mut Vec<Datum>, left: &mut Rows) -> Result<bool, NoMemory>
+    requires { is_bound (length row.old.items) pred.now ≡ true }
+    ensures touched { IfOk result (λ t. t ≡ spec.passes pred.now row.old.items) }
+    ensures rows { OnOk result (left.new ≡ left.old ++ (if spec.passes pred.now row.old.items then [] else row.old.items ∷ [])) }
 {
-    for row in rows.iter() {
-        if passes(pred, row) {
-            return true;
-        }
+    if passes(pred, row) {
+        return Ok(true);
     }
-    false
+    left.push_from(row)?;
+    Ok(false)
 }
 
-/// The rows that are not in the scope. The bytes of texts are shared.
-fn rows_left(alloc: Global, pred: &Scope, rows: &Rows) -> Result<Rows, NoMemory>
-    requires { list_all (λ r. is_bound (length r) pred.now) rows.now ≡ true }
-    ensures { IfOk result (λ r. r ≡ others (spec.passes pred.now) rows.now) }
-{
-    let mut left = Rows::new(alloc);
-    for row in rows.iter() {
-        if !passes(pred, row) {
-            left.push_copy(row)?;
-        }
-    }
-    Ok(left)
-}
-
-/// Takes what comes of a row of a file by an update.
+/// Takes what comes of a row of a file by an update, and says whether the row is in the scope. One that is not is moved.
 #[tactic(auto, using(crate::proofs::Told::told_is))]
 fn update_row(
     alloc: Global,
     pred: &Scope,
     sets: &[SetTo<u32>],
     schema: &Schema,
-    row: &[Datum],
+    row: &mut Vec<Datum>,
     gathered: &mut Gathered,
-) -> Result<(), NoMemory>
-    requires pred { is_bound (length row.now) pred.now ≡ true }
-    requires sets { are_sets_bound (length row.now) 0 sets.now ≡ true }
-    ensures rows { OnOk result (gathered.new.rows ≡ gathered.old.rows ++ given (spec.update_step pred.now sets.now schema.now row.now)) }
-    ensures least { OnOk result (gathered.new.least ≡ lesser gathered.old.least (wrong_of row.now (spec.update_step pred.now sets.now schema.now row.now))) }
+) -> Result<bool, NoMemory>
+    requires pred { is_bound (length row.old.items) pred.now ≡ true }
+    requires sets { are_sets_bound (length row.old.items) 0 sets.now ≡ true }
+    ensures touched { IfOk result (λ t. t ≡ spec.passes pred.now row.old.items) }
+    ensures rows { OnOk result (gathered.new.rows ≡ gathered.old.rows ++ given (spec.update_step pred.now sets.now schema.now row.old.items)) }
+    ensures least { OnOk result (gathered.new.least ≡ lesser gathered.old.least (wrong_of row.old.items (spec.update_step pred.now sets.now schema.now row.old.items))) }
 {
     if !passes(pred, row) {
         gathered.keep(row)?;
-        return Ok(());
+        return Ok(false);
     }
     let image = updated_row(alloc, schema, sets, row, &[]);
     gathered.put(alloc, row, image)?;
-    Ok(())
+    Ok(true)
 }
 
 /// Takes what is added for a row of a file by an insert select.
@@ -106,24 +92,6 @@ fn select_row(
     let image = selected_row(alloc, schema, exprs, row);
     gathered.put(alloc, row, image)?;
     Ok(())
-}
-
-/// The rows, with those of the scope changed.
-fn rows_updated(
-    alloc: Global,
-    pred: &Scope,
-    sets: &[SetTo<u32>],
-    schema: &Schema,
-    rows: &Rows,
-) -> Result<Rows, OpFault>
-    requires { list_all (λ r. is_bound (length r) pred.now && are_sets_bound (length r) 0 sets.now) rows.now ≡ true }
-    ensures { Reads is_op_memory result (results (spec.update_step pred.now sets.now schema.now) rows.now) }
-{
-    let mut gathered = Gathered::new(alloc);
-    for row in rows.iter() {
-        update_row(alloc, pred, sets, schema, row, &mut gathered)?;
-    }
-    gathered.finish()
 }
 
 /// The rows of the expressions for the rows of the scope.
@@ -156,20 +124,21 @@ fn file_with(alloc: Global, touched: bool, rows: Rows) -> Changed
 }
 
 /// A delete.
-#[tactic(auto, using(crate::proofs::Untouched::none_taken))]
 fn delete(alloc: Global, pred: &Scope, rows: Rows) -> Result<Changed, OpFault>
     requires { list_all (λ r. is_bound (length r) pred.now) rows ≡ true }
     ensures { Reads is_op_memory result (spec.deleted pred.now rows) }
 {
-    if !any_passes(pred, &rows) {
-        return Ok(file_with(alloc, false, rows));
+    let mut coming = rows.into_rows();
+    let mut row = Vec::new(alloc);
+    let mut left = Rows::new(alloc);
+    let mut touched = false;
+    'rows: while coming.next_into(&mut row)? {
+        touched |= delete_row(pred, &mut row, &mut left)?;
     }
-    let rows = rows_left(alloc, pred, &rows)?;
-    Ok(file_with(alloc, true, rows))
+    Ok(file_with(alloc, touched, left))
 }
 
 /// An update.
-#[tactic(auto, using(crate::proofs::Untouched::none_changed))]
 fn update(
     alloc: Global,
     pred: &Scope,
@@ -180,11 +149,15 @@ fn update(
     requires { list_all (λ r. is_bound (length r) pred.now && are_sets_bound (length r) 0 sets.now) rows ≡ true }
     ensures { Reads is_op_memory result (spec.updated_file pred.now sets.now schema.now rows) }
 {
-    if !any_passes(pred, &rows) {
-        return Ok(file_with(alloc, false, rows));
+    let mut coming = rows.into_rows();
+    let mut row = Vec::new(alloc);
+    let mut gathered = Gathered::new(alloc);
+    let mut touched = false;
+    'rows: while coming.next_into(&mut row)? {
+        touched |= update_row(alloc, pred, sets, schema, &mut row, &mut gathered)?;
     }
-    let rows = rows_updated(alloc, pred, sets, schema, &rows)?;
-    Ok(file_with(alloc, true, rows))
+    let rows = gathered.finish()?;
+    Ok(file_with(alloc, touched, rows))
 }
 
 /// An insert select.
@@ -208,8 +181,7 @@ fn insert_select(
 
 /// The rows of a file after a delete, an update or an insert select, and the rows that an insert select adds. The
 /// columns of the operation are places of the rows. A file is touched where one of its rows is in the scope of a delete
-/// or an update; the rows of one that is not are handed back as they came, and those of one that is keep their order
-/// and share the bytes of their texts.
+/// or an update. The rows keep their order, and those that stay are moved: none is copied.
 pub fn change_file(alloc: Global, op: &RowOp, rows: Rows) -> Result<Changed, OpFault>
     requires { list_all (λ r. is_row_op_bound (length r) op.now) rows ≡ true }
     ensures { Reads is_op_memory result (spec.changed_by op.now rows) }

@@ -47,12 +47,12 @@ impl Gathered {
         }
     }
 
-    /// Takes a row that stays. The bytes of its texts are shared.
-    pub fn keep(&mut self, row: &[Datum]) -> Result<(), NoMemory>
-        ensures rows { OnOk result (self.new.rows ≡ self.old.rows ++ row.now ∷ []) }
+    /// Takes a row that stays, by move. The list of its data is left without any, with its room.
+    pub fn keep(&mut self, row: &mut Vec<Datum>) -> Result<(), NoMemory>
+        ensures rows { OnOk result (self.new.rows ≡ self.old.rows ++ row.old.items ∷ []) }
         ensures least { self.new.least ≡ self.old.least }
     {
-        self.rows.push_copy(row)
+        self.rows.push_from(row)
     }
 
     /// Notes that nothing came of a row.

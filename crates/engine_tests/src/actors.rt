@@ -214,64 +214,49 @@ fn attempt(actor: u16) -> Item
     }
 }
 
+/// Whether two actors make these calls along the items.
+fn makes(alloc: Global, items: &[Item], refused: u32, calls: &str) -> Result<bool, NoMemory>
+    requires { All (λ i. (0 < i.actor) × (i.actor ≤ 2)) items.now }
+{
+    Ok(calls_of(alloc, items, refused)?.as_str() == calls)
+}
+
 #[test]
 fn an_item_of_one_call_makes_one(rt: HostRuntime) -> Result<(), Fail> {
-    let calls = calls_of(rt.alloc(), &[one(1), one(2), one(2), one(1), one(1)], 0)?;
-    assert_eq!(rt;
-        calls.as_str(),
-        " a1n b1n b1n a1n a1p a1n a2n a2p b1p b1n b2n b2p"
-    );
+    let items = [one(1), one(2), one(2), one(1), one(1)];
+    let calls = " a1n b1n b1n a1n a1p a1n a2n a2p b1p b1n b2n b2p";
+    assert!(rt; makes(rt.alloc(), &items, 0, calls)?);
     Ok(())
 }
 
 #[test]
 fn a_statement_goes_to_its_end(rt: HostRuntime) -> Result<(), Fail> {
     let alloc = rt.alloc();
-    let between = calls_of(alloc, &[statement(1), one(2), statement(1), one(2)], 0)?;
-    assert_eq!(rt;
-        between.as_str(),
-        " a1n a1n a1p a1n b1n a2n a2p b1n b1p b1n b2n b2p"
-    );
-    let within = calls_of(
-        alloc,
-        &[
-            one(2),
-            statement(2),
-            one(1),
-            attempt(2),
-            statement(2),
-            one(1),
-        ],
-        0,
-    )?;
-    assert_eq!(rt;
-        within.as_str(),
-        " b1n b1n b1p b1n a1n b2n b2p a1n a1p a1n a2n a2p"
-    );
+    let between = [statement(1), one(2), statement(1), one(2)];
+    let calls = " a1n a1n a1p a1n b1n a2n a2p b1n b1p b1n b2n b2p";
+    assert!(rt; makes(alloc, &between, 0, calls)?);
+    let within = [
+        one(2),
+        statement(2),
+        one(1),
+        attempt(2),
+        statement(2),
+        one(1),
+    ];
+    let calls = " b1n b1n b1p b1n a1n b2n b2p a1n a1p a1n a2n a2p";
+    assert!(rt; makes(alloc, &within, 0, calls)?);
     Ok(())
 }
 
 #[test]
 fn an_attempt_stops_before_the_put(rt: HostRuntime) -> Result<(), Fail> {
     let alloc = rt.alloc();
-    let at_put = calls_of(
-        alloc,
-        &[attempt(1), one(2), attempt(1), one(2), one(1), one(2)],
-        0,
-    )?;
-    assert_eq!(rt;
-        at_put.as_str(),
-        " a1n a1n b1n b1n a1p b1p a1n a2n a2p b1n b2n b2p"
-    );
-    let after_put = calls_of(
-        alloc,
-        &[attempt(2), one(2), attempt(2), one(1), attempt(2), one(1)],
-        0,
-    )?;
-    assert_eq!(rt;
-        after_put.as_str(),
-        " b1n b1n b1p b1n a1n b2n a1n a1p a1n a2n a2p b2p"
-    );
+    let at_put = [attempt(1), one(2), attempt(1), one(2), one(1), one(2)];
+    let calls = " a1n a1n b1n b1n a1p b1p a1n a2n a2p b1n b2n b2p";
+    assert!(rt; makes(alloc, &at_put, 0, calls)?);
+    let after_put = [attempt(2), one(2), attempt(2), one(1), attempt(2), one(1)];
+    let calls = " b1n b1n b1p b1n a1n b2n a1n a1p a1n a2n a2p b2p";
+    assert!(rt; makes(alloc, &after_put, 0, calls)?);
     Ok(())
 }
 
@@ -290,27 +275,20 @@ fn items_of_a_finished_actor_are_passed_over(rt: HostRuntime) -> Result<(), Fail
         one(1),
         one(2),
     ];
-    let calls = calls_of(rt.alloc(), &items, 0)?;
-    assert_eq!(rt;
-        calls.as_str(),
-        " b1n b1n b1p b1n b2n b2p a1n a1n a1p a1n a2n a2p"
-    );
+    let calls = " b1n b1n b1p b1n b2n b2p a1n a1n a1p a1n a2n a2p";
+    assert!(rt; makes(rt.alloc(), &items, 0, calls)?);
     Ok(())
 }
 
 #[test]
 fn a_refused_call_is_that_of_its_item(rt: HostRuntime) -> Result<(), Fail> {
     let alloc = rt.alloc();
-    let one_call = calls_of(alloc, &[one(1), one(2), one(1)], 2)?;
-    assert_eq!(rt;
-        one_call.as_str(),
-        " a1n a1n a1p a1n a2n a2p b1n b1p b1n b2n b2p"
-    );
-    let within = calls_of(alloc, &[statement(1), one(2)], 2)?;
-    assert_eq!(rt;
-        within.as_str(),
-        " a1n a1p a1n b1n a2n a2p b1n b1p b1n b2n b2p"
-    );
+    let between = [one(1), one(2), one(1)];
+    let calls = " a1n a1n a1p a1n a2n a2p b1n b1p b1n b2n b2p";
+    assert!(rt; makes(alloc, &between, 2, calls)?);
+    let within = [statement(1), one(2)];
+    let calls = " a1n a1p a1n b1n a2n a2p b1n b1p b1n b2n b2p";
+    assert!(rt; makes(alloc, &within, 2, calls)?);
     Ok(())
 }
 

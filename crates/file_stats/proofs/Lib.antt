@@ -3,3 +3,4 @@ mod Steps
 pub mod Orders
 pub mod Truths
 mod ReadBack
+mod Fitting

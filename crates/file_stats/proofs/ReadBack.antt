@@ -1,5 +1,5 @@
 -- What is written of statistics reads as what is kept of them.
-use Rattle.std.proofs.Common.{◌≡◌, ◌≢◌, ◌==◌, ◌≤◌, ◌<◌, ◌^◌, ℕ, ◌+◌, suc, zero, Bool, true, false, ◌||◌, ◌&&◌, nat_lt, if◌then◌else◌, List, [], ◌∷◌, length, map, slice_index_or, codes, Option, Some, None, ℤ, pos, negsuc, refl, sym, ap, ◌∙◌, subst, arith}
+use Rattle.std.proofs.Common.{◌≡◌, ◌≢◌, ◌==◌, ◌≤◌, ◌<◌, ◌^◌, ℕ, ◌+◌, suc, zero, Bool, true, false, ◌||◌, ◌&&◌, nat_lt, if◌then◌else◌, List, [], ◌∷◌, length, map, slice_index_or, codes, Option, Some, None, ℤ, pos, negsuc, neg_ℤ, refl, sym, ap, ◌∙◌, subst, arith}
 use Rattle.std.specs.Prelude.{IfSome, option_and_then, option_map}
 use Rattle.std.specs.List.{All, AllPairs}
 use Rattle.std.specs.Fmt.{take_chars}
@@ -7,7 +7,9 @@ use Rattle.std.specs.Ordering.{nat_cmp, match_ordering}
 use Rattle.std.specs.Cmp.Lexicographic.{slice_cmp}
 use Rattle.std.specs.declared.cmp.Ordering.{Ordering}
 use Rattle.std.specs.declared.cmp.Ordering.TheVariants.{Less, Equal, Greater}
-use Rattle.std.proofs.lemmas.Bool.{ltb-true, lt-ltb}
+use Rattle.std.proofs.lemmas.Bool.{ltb-true, lt-ltb, and_parts}
+use Rattle.std.proofs.lemmas.Float.{T_from_true}
+use lib.Signed.{le_z}
 use Rattle.serde_json.specs.Data.{Data, null, boolean, number, string, array, object, Members, no_members, member, put, depth, members_depth}
 use Rattle.serde_json.specs.Find.{get, get_member, as_number, as_str, as_u64, as_i64, of_integer}
 use Rattle.serde_json.specs.Written.{has_float, members_have_float}
@@ -53,9 +55,15 @@ wide (negsuc n) e = let h : n < 2 ^ 31 = ltb-true n (2 ^ 31) e in lt-ltb n (2 ^ 
 integer_back : (n : ℤ) → is_i32 n ≡ true → option_and_then narrowed (long_as (number_data n)) ≡ Some n
 integer_back n e = ap (option_and_then narrowed) (long_back n (wide n e)) ∙ ap (λ b. if b then Some n else None) e
 
-day_back : (n : ℤ) → IsDayNumber n → (b : Bool) → if_said (bound_as kind.Date) (option_map day_data (if b then Some n else None)) ≡ option_map datum.Date (if b then Some n else None)
-day_back n h true = ap (option_map datum.Date) (number_given_back n h)
-day_back n h false = refl
+-- a number that passes the test is that of a day
+of_test : (n : ℤ) → is_day_number n ≡ true → IsDayNumber n
+of_test n e =
+    let p = and_parts (le_z (neg_ℤ (pos 719_162)) n) (le_z n (pos 2_932_896)) e in
+    (record { le = T_from_true (le_z (neg_ℤ (pos 719_162)) n) p.0 }, record { le = T_from_true (le_z n (pos 2_932_896)) p.1 })
+
+day_back : (n : ℤ) (b : Bool) → is_day_number n ≡ b → if_said (bound_as kind.Date) (option_map day_data (if b then Some n else None)) ≡ option_map datum.Date (if b then Some n else None)
+day_back n true e = ap (option_map datum.Date) (number_given_back n (of_test n e))
+day_back n false e = refl
 
 text_back : (o : Option (List ℕ)) → if_said (bound_as kind.String) (option_map string o) ≡ option_map datum.Text o
 text_back None = refl
@@ -66,7 +74,7 @@ value_back b kind.Long (datum.Long n) h = ap (option_map datum.Long) (long_back 
 value_back b kind.Integer (datum.Integer n) h = ap (option_map datum.Integer) (integer_back n h)
 value_back b kind.Boolean (datum.Boolean x) h = refl
 value_back b kind.String (datum.Text t) h = text_back (kept_text b t)
-value_back b kind.Date (datum.Date n) h = day_back n h (is_day_number n)
+value_back b kind.Date (datum.Date n) h = day_back n (is_day_number n) refl
 value_back b k d h = absurd h
 
 bound_back : (b : Bound) (k : Kind) (o : Option Datum) → IfSome o (FitsKind k) → if_said (bound_as k) (option_and_then (bound_data b) o) ≡ option_and_then (kept b) o

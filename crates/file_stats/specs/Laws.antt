@@ -6,7 +6,6 @@ use Rattle.row_base.specs.declared.row.Datum.TheVariants as datum
 use Rattle.row_base.specs.declared.row.Kind.{Kind}
 use Rattle.row_base.specs.declared.row.Kind.TheVariants as kind
 use Rattle.row_base.specs.declared.schema.Column.{Column}
-use Rattle.row_base.specs.Dates.{IsDayNumber}
 use Rattle.row_base.specs.Numbers.{is_i64}
 use Rattle.row_base.specs.Schema.{TableSchema, is_partition_column, is_of_kind, is_i32}
 use Rattle.file_stats.specs.declared.stats.ColumnStats.{ColumnStats}
@@ -27,14 +26,28 @@ KeptStatsAreTrue = (st : Stats) (rows : List (List Datum)) → AreTrue st rows �
 abbrev pub BoundsAreOfTheirKind : Type 0
 BoundsAreOfTheirKind = (k : Kind) (d : Data) → IfSome (bound_as k d) (λ b. is_of_kind k b ≡ true)
 
--- a bound that is read back in a column of this kind: a number of its width, or a day that has a text. A truth value
--- isn't written
+-- a number of the width that its kind has
+abbrev pub HasWidth : Datum → Type 0
+HasWidth datum.Null = Unit {0}
+HasWidth (datum.Long n) = is_i64 n ≡ true
+HasWidth (datum.Integer n) = is_i32 n ≡ true
+HasWidth (datum.Boolean b) = Unit {0}
+HasWidth (datum.Text t) = Unit {0}
+HasWidth (datum.Date n) = Unit {0}
+
+-- both bounds of a column are so
+pub record HaveWidth (c : ColumnStats) : Type 0 where
+  pub least : IfSome c.least HasWidth
+  pub greatest : IfSome c.greatest HasWidth
+
+-- a bound of a column of this kind whose text, where it has one, reads as it: a number has the width of its kind. Truth
+-- values and days outside the years 1 to 9999 have no text
 abbrev pub FitsKind : Kind → Datum → Type 0
 FitsKind kind.Long (datum.Long n) = is_i64 n ≡ true
 FitsKind kind.Integer (datum.Integer n) = is_i32 n ≡ true
 FitsKind kind.Boolean (datum.Boolean b) = Unit {0}
 FitsKind kind.String (datum.Text t) = Unit {0}
-FitsKind kind.Date (datum.Date n) = IsDayNumber n
+FitsKind kind.Date (datum.Date n) = Unit {0}
 FitsKind k d = ⊥
 
 -- of a partition column nothing is known, and a data column's bounds are read back

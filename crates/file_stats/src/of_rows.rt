@@ -1,6 +1,9 @@
 //! The statistics of rows.
-ghost use Rattle.std.specs.Prelude.{◌≡◌, IfOk, option_map};
+ghost use Rattle.std.specs.Prelude.{◌≡◌, IfOk, IfSome, option_map};
+ghost use Rattle.std.specs.List.{All};
+ghost use Rattle.row_base.specs.Schema.{FitsSchema};
 ghost use Rattle.file_stats.specs.Columns as spec;
+ghost use Rattle.file_stats.specs.Laws.{HasWidth, HaveWidth, StatsFit};
 
 use crate::bound::Bound;
 use crate::stats::{ColumnStats, Stats};
@@ -68,12 +71,21 @@ fn outermost(bound: Bound, rows: &Rows, place: usize) -> Option<&Datum>
     found
 }
 
+/// The same datum.
+fn itself(datum: Datum) -> Datum
+    ensures same { result ≡ datum }
+    ensures width { HasWidth result }
+{
+    datum
+}
+
 /// The same, of its own.
 fn bound_of(bound: Bound, rows: &Rows, place: usize) -> Result<Option<Datum>, NoMemory>
-    ensures { IfOk result (λ o. o ≡ spec.bound_of bound (spec.column_in rows.now place)) }
+    ensures bound { IfOk result (λ o. o ≡ spec.bound_of bound (spec.column_in rows.now place)) }
+    ensures width { IfOk result (λ o. IfSome o HasWidth) }
 {
     match outermost(bound, rows, place) {
-        Some(value) => Ok(Some(value.copy()?)),
+        Some(value) => Ok(Some(itself(value.copy()?))),
         None => Ok(None),
     }
 }
@@ -94,7 +106,8 @@ fn null_count(rows: &Rows, place: usize) -> u64
 
 /// The statistics of a column.
 fn column_stats(rows: &Rows, place: usize) -> Result<ColumnStats, NoMemory>
-    ensures { IfOk result (λ c. c ≡ spec.column_stats (spec.column_in rows.now place)) }
+    ensures stats { IfOk result (λ c. c ≡ spec.column_stats (spec.column_in rows.now place)) }
+    ensures width { IfOk result HaveWidth }
 {
     let least = bound_of(Bound::Least, rows, place)?;
     let greatest = bound_of(Bound::Greatest, rows, place)?;
@@ -107,7 +120,8 @@ fn column_stats(rows: &Rows, place: usize) -> Result<ColumnStats, NoMemory>
 
 /// The statistics of the column at this place, unless it is a partition column.
 fn stats_at(schema: &Schema, rows: &Rows, place: u32) -> Result<ColumnStats, NoMemory>
-    ensures { IfOk result (λ c. c ≡ spec.of_data_column schema.now place (spec.column_stats (spec.column_in rows.now place))) }
+    ensures stats { IfOk result (λ c. c ≡ spec.of_data_column schema.now place (spec.column_stats (spec.column_in rows.now place))) }
+    ensures width { IfOk result HaveWidth }
 {
     if schema.is_partition(place) {
         Ok(ColumnStats::nothing())
@@ -116,10 +130,12 @@ fn stats_at(schema: &Schema, rows: &Rows, place: u32) -> Result<ColumnStats, NoM
     }
 }
 
-/// The statistics of a file with these rows, all of which are known. They are true of the rows.
+/// The statistics of a file with these rows, all of which are known. They are true of the rows, and those of rows that
+/// fit the schema are read back.
 pub fn stats_of(alloc: Global, schema: &Schema, rows: &Rows) -> Result<Stats, NoMemory>
     ensures stats { IfOk result (λ s. s ≡ spec.stats_of schema.now rows.now) }
     ensures truth { IfOk result (λ s. spec.AreTrue s rows.now) }
+    ensures fit { IfOk result (λ s. All (FitsSchema schema.now) rows.now → StatsFit schema.now s) }
 {
     let columns = columns_of(alloc, schema, rows)?;
     Ok(Stats {
@@ -130,7 +146,8 @@ pub fn stats_of(alloc: Global, schema: &Schema, rows: &Rows) -> Result<Stats, No
 
 /// The statistics of each column.
 fn columns_of(alloc: Global, schema: &Schema, rows: &Rows) -> Result<Items<ColumnStats>, NoMemory>
-    ensures { IfOk result (λ cs. cs ≡ spec.columns_of schema.now rows.now) }
+    ensures stats { IfOk result (λ cs. cs ≡ spec.columns_of schema.now rows.now) }
+    ensures width { IfOk result (All HaveWidth) }
 {
     let mut columns = Vec::with_capacity(alloc, schema.columns().len())?;
     for (i, _column) in schema.columns().iter().enumerate() {

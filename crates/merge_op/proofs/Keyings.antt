@@ -11,7 +11,7 @@ use Rattle.row_base.proofs.RowOrder.{row_decides}
 use Rattle.op_types.specs.declared.bound.MergeSpec.{MergeSpec}
 use Rattle.op_types.specs.Bound.{is_merge_bound}
 use Rattle.merge_op.specs.declared.keys.Found.{Found}
-use Rattle.merge_op.specs.Found.{found_view, with_row, IsKeyed, has_key, is_left}
+use Rattle.merge_op.specs.Found.{found_view, found_under, with_row, IsKeyed, has_key, is_left}
 use Rattle.merge_op.specs.Matches.{is_match, matches, unmatched, key_data, has_null}
 use Rattle.merge_op.specs.Merges.{first_of, match_of}
 use Rattle.merge_op.proofs.Widths.{source_wide}
@@ -80,6 +80,15 @@ pub key_found : (keys : List ℕ) (source : List Row) (m : BTreeMap Row Found) (
 key_found keys source m x n keyed =
     keyed (key_data keys x) ∙ ap first_of (sym (filter_agree (is_match keys x) (λ s. row_eq (key_data keys s) (key_data keys x)) (λ s. match_is keys x s n) source))
 
+found_match : (m : MergeSpec ℕ) (keyed : BTreeMap Row Found) (x : Row) → IsKeyed m.keys m.source keyed → found_view (found_under m.keys keyed x) ≡ match_of m x
+found_match m keyed x is = elim (cases_Bool (has_null m.keys x)) [
+  | inl n ↦ ap (λ (b : Bool). found_view (if b then None else get row_cmp keyed (key_data m.keys x))) n ∙ none_found m.keys m.source x n
+  | inr n ↦ ap (λ (b : Bool). found_view (if b then None else get row_cmp keyed (key_data m.keys x))) n ∙ key_found m.keys m.source keyed x n is
+]
+
+pub match_found : (m : MergeSpec ℕ) (keyed : BTreeMap Row Found) (x : Row) (o : Option Found) → o ≡ found_under m.keys keyed x → IsKeyed m.keys m.source keyed → found_view o ≡ match_of m x
+match_found m keyed x o e is = ap found_view e ∙ found_match m keyed x is
+
 -- the first of some rows passes what all pass
 pub first_passes : (P : Row → Bool) (test : Row → Bool) (source : List Row) → list_all P source ≡ true → IfSome (first_of (filter test source)) (λ f. P f.0 ≡ true)
 first_passes P test [] all = tt
@@ -101,6 +110,10 @@ found_wide m row (Some f) e bound =
     let all = first_passes (λ s. length s == length row) (is_match m.keys row) m.source (source_wide (length row) m bound) in
     let wide : (length f.row.now == length row) ≡ true = subst (λ (o : Option (Row × Bool)). IfSome o (λ f. (length f.0 == length row) ≡ true)) (sym e) all in
     eqb-true (length f.row.now) (length row) wide
+
+pub match_wide : (m : MergeSpec ℕ) (keyed : BTreeMap Row Found) (x : Row) (o : Option Found) → o ≡ found_under m.keys keyed x → IsKeyed m.keys m.source keyed → is_merge_bound (length x) m ≡ true
+    → IfSome o (λ f. length f.row.now ≡ length x)
+match_wide m keyed x o e is bound = found_wide m x o (match_found m keyed x o e is) bound
 
 -- ---- what is left
 

@@ -7,7 +7,7 @@ ghost use Rattle.predicates.specs.Truths;
 ghost use Rattle.op_types.specs.Bound.{is_merge_bound};
 ghost use Rattle.merge_op.specs.Matches.{key_data, has_null};
 ghost use Rattle.merge_op.specs.Merges as spec;
-ghost use Rattle.merge_op.specs.Found.{IsKeyed, found_view, with_row};
+ghost use Rattle.merge_op.specs.Found.{IsKeyed, found_under, found_view, with_row};
 
 use op_types::MergeOp;
 use row_base::{Datum, NoMemory, Row, Rows};
@@ -105,8 +105,25 @@ pub(crate) fn under<'a>(keyed: &Keyed<'a>, key: &Row) -> Option<Found<'a>>
     keyed.get(key).copied()
 }
 
+/// What stands under the key of a row, where no datum of it is null.
+fn under_key<'a>(
+    alloc: Global,
+    keys: &[u32],
+    keyed: &Keyed<'a>,
+    row: &[Datum],
+) -> Result<Option<Found<'a>>, NoMemory>
+    requires { list_all (λ c. nat_lt c (length row.now)) keys.now ≡ true }
+    ensures { IfOk result (λ o. o ≡ found_under keys.now keyed.now row.now) }
+{
+    if is_null_key(keys, row) {
+        return Ok(None);
+    }
+    let key = key_of(alloc, keys, row)?;
+    Ok(under(keyed, &key))
+}
+
 /// The first row of the source that matches a row, and whether there is another one.
-#[tactic(auto, using(crate::proofs::Keyings::none_found, crate::proofs::Keyings::key_found, crate::proofs::Keyings::found_wide))]
+#[tactic(auto, using(crate::proofs::Keyings::match_found, crate::proofs::Keyings::match_wide))]
 pub(crate) fn match_of<'a>(
     alloc: Global,
     op: &MergeOp,
@@ -118,10 +135,6 @@ pub(crate) fn match_of<'a>(
     ensures found { IfOk result (λ o. found_view o ≡ spec.match_of op.now row.now) }
     ensures wide { IfOk result (λ o. IfSome o (λ f. length f.row.now ≡ length row.now)) }
 {
-    if is_null_key(op.keys.as_slice(), row) {
-        return Ok(None);
-    }
-    let key = key_of(alloc, op.keys.as_slice(), row)?;
-    let found = under(keyed, &key);
+    let found = under_key(alloc, op.keys.as_slice(), keyed, row)?;
     Ok(found)
 }

@@ -117,22 +117,22 @@ fn added_rows(
     ensures { IfOk result (λ r. r ≡ spec.added op.now (spec.rows_in files.now)) }
 {
     if op.insert {
-        unmatched_rows(alloc, op, keyed, files)
+        unmatched_rows(alloc, op.keys.as_slice(), &op.source, keyed, files)
     } else {
         Ok(Rows::new(alloc))
     }
 }
 
 /// What a merge makes of these files.
-#[tactic(auto, using(crate::proofs::Widths::files_bound, crate::proofs::Widths::files_keyed, crate::proofs::Widths::source_keyed))]
 fn merge_scanned(
     alloc: Global,
     op: &MergeOp,
     schema: &Schema,
     files: &[ScannedFile],
 ) -> Result<Merged, MergeFault>
-    requires op { is_merge_bound (length schema.now.columns) op.now ≡ true }
-    requires rows { list_all (λ f. list_all (λ r. length r == length schema.now.columns) f.rows) files.now ≡ true }
+    requires bound { list_all (λ f. list_all (λ r. is_merge_bound (length r) op.now) f.rows) files.now ≡ true }
+    requires source { list_all (λ s. list_all (λ c. nat_lt c (length s)) op.now.keys) op.now.source ≡ true }
+    requires files { list_all (λ f. list_all (λ r. list_all (λ c. nat_lt c (length r)) op.now.keys) f.rows) files.now ≡ true }
     ensures { Reads is_merge_memory result (spec.merged schema.now op.now files.now) }
 {
     let keyed = keyed(alloc, op.keys.as_slice(), &op.source)?;

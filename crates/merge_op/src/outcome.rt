@@ -96,7 +96,7 @@ fn merge_row(
             Ok(())
         }
         None => {
-            gathered.keep(row)?;
+            gathered.rows.push_copy(row)?;
             Ok(())
         }
     }

@@ -4,13 +4,11 @@ ghost use Rattle.std.specs.BTreeMap.{get};
 ghost use Rattle.std.specs.List.{list_all, list_any};
 ghost use Rattle.row_base.specs.RowOrder.{row_cmp};
 ghost use Rattle.row_base.specs.declared.row.Datum.{Datum};
-ghost use Rattle.op_types.specs.Bound.{is_merge_bound};
 ghost use Rattle.merge_op.specs.Found.{IsKeyed, has_key, is_left};
 ghost use Rattle.merge_op.specs.Matches.{unmatched};
 ghost use Rattle.merge_op.specs.Merges.{rows_in};
 
 use crate::keys::{Keyed, is_null_key, key_of, under};
-use op_types::MergeOp;
 use row_base::{Datum, NoMemory, Rows, ScannedFile};
 use std::alloc::Global;
 
@@ -76,32 +74,39 @@ fn stands(alloc: Global, keys: &[u32], row: &[Datum], keyed: &Keyed<'_>) -> Resu
 }
 
 /// The rows of the source whose key is null or stands.
-fn rows_left(alloc: Global, op: &MergeOp, keyed: &Keyed<'_>) -> Result<Rows, NoMemory>
-    requires { list_all (λ s. list_all (λ c. nat_lt c (length s)) op.now.keys) op.now.source ≡ true }
-    ensures { IfOk result (λ r. r ≡ filter (is_left op.now.keys keyed.now) op.now.source) }
+fn rows_left(
+    alloc: Global,
+    keys: &[u32],
+    source: &Rows,
+    keyed: &Keyed<'_>,
+) -> Result<Rows, NoMemory>
+    requires { list_all (λ s. list_all (λ c. nat_lt c (length s)) keys.now) source.now ≡ true }
+    ensures { IfOk result (λ r. r ≡ filter (is_left keys.now keyed.now) source.now) }
 {
     let mut left = Rows::new(alloc);
-    for row in op.source.iter() {
-        if stands(alloc, op.keys.as_slice(), row, keyed)? {
+    for row in source.iter() {
+        if stands(alloc, keys, row, keyed)? {
             left.push_copy(row)?;
         }
     }
     Ok(left)
 }
 
-/// The rows of the source that match no row of these files.
+/// The rows of a source that match no row of these files.
 #[tactic(auto, using(crate::proofs::Keyings::left_is))]
 pub(crate) fn unmatched_rows(
     alloc: Global,
-    op: &MergeOp,
+    keys: &[u32],
+    source: &Rows,
     mut keyed: Keyed<'_>,
     files: &[ScannedFile],
 ) -> Result<Rows, NoMemory>
-    requires source { list_all (λ s. list_all (λ c. nat_lt c (length s)) op.now.keys) op.now.source ≡ true }
-    requires files { list_all (λ f. list_all (λ r. list_all (λ c. nat_lt c (length r)) op.now.keys) f.rows) files.now ≡ true }
-    requires keyed { IsKeyed op.now.keys op.now.source keyed }
-    ensures { IfOk result (λ r. r ≡ unmatched op.now.keys op.now.source (rows_in files.now)) }
+    requires source { list_all (λ s. list_all (λ c. nat_lt c (length s)) keys.now) source.now ≡ true }
+    requires files { list_all (λ f. list_all (λ r. list_all (λ c. nat_lt c (length r)) keys.now) f.rows) files.now ≡ true }
+    requires keyed { IsKeyed keys.now source.now keyed }
+    ensures { IfOk result (λ r. r ≡ unmatched keys.now source.now (rows_in files.now)) }
 {
-    forget_files(alloc, op.keys.as_slice(), files, &mut keyed)?;
-    rows_left(alloc, op, &keyed)
+    forget_files(alloc, keys, files, &mut keyed)?;
+    let left = rows_left(alloc, keys, source, &keyed)?;
+    Ok(left)
 }

@@ -52,7 +52,9 @@ pub type MergeOp = MergeSpec<u32>;
 #[derive(Drop)]
 pub enum RowOp {
     /// The rows are taken away.
-    Delete { pred: Scope },
+    Delete {
+        pred: Scope,
+    },
     /// Columns of the rows are set, each column at most once. All expressions see the row as it was.
     Update {
         pred: Scope,

@@ -1,18 +1,18 @@
 -- Numbers in decimal and the texts that write them.
-use Rattle.std.proofs.Common.{◌≡◌, ℕ, suc, ◌<◌, ◌^◌, ◌==◌, ◌&&◌, ◌||◌, not, Bool, true, false, if◌then◌else◌, nat_lt, List, [], ◌∷◌, length, drop, slice_index, Option, Some, None, Result, Ok, Err, IsUtf8, ℤ, pos, negsuc, neg_ℤ, refl, sym, ap, ◌∙◌, subst, arith, inl, inr, rules}
-use Rattle.std.specs.Result.{result_ok, OkIff}
+use Rattle.std.proofs.Common.{◌≡◌, ℕ, suc, ◌<◌, ◌≤◌, ◌+◌, ◌*◌, ◌^◌, ◌==◌, ◌&&◌, ◌||◌, not, Bool, true, false, if◌then◌else◌, nat_lt, List, [], ◌∷◌, length, drop, slice_index, Option, Some, None, Result, Ok, Err, IsUtf8, ℤ, pos, negsuc, neg_ℤ, refl, sym, ap, ◌∙◌, subst, arith, inl, inr, rules}
+use Rattle.std.specs.Result.{result_ok}
 use Rattle.std.specs.List.{list_all}
 use Rattle.std.specs.Int.{w64}
 use Rattle.std.specs.Int.RustNames.{FitsSigned}
-use Rattle.std.specs.Char.{is_ascii_digit}
+use Rattle.std.specs.Char.{is_ascii_digit, digit_value}
 use Rattle.std.specs.Fmt.{decimal, signed_decimal}
-use Rattle.std.specs.Str.Parse.{IsNumeral, AllDigits, digits_value, signed_digits_value, without_leading_sign, without_leading_plus, ParsesSigned, ParsesUnsigned}
+use Rattle.std.specs.Str.Parse.{IsNumeral, AllDigits, digits_value, digits_value_after, signed_digits_value, without_leading_sign, without_leading_plus, ParsesSigned}
 use Rattle.std.proofs.lemmas.Bool.{cases_Bool, cases_lt, cond-true, cond-false, and_parts, and_from, lt-ltb, le-ltb, ltb-true, eqb-true, eqb-false, eq-eqb, ne_eqb}
 use Rattle.std.proofs.lemmas.Str.{IsUtf8-from_ascii}
 use Rattle.std.proofs.lemmas.Str.Ascii.{IsAscii-cons}
-use Rattle.std.proofs.lemmas.Str.Parse.{IsDigitsTest, IsNumeralModel, numerals_by_value, digit_at, without_leading_plus_none, parse_digits}
+use Rattle.std.proofs.lemmas.Str.Parse.{IsDigitsTest, IsNumeralModel, numerals_by_value, digit_at, without_leading_plus_none}
 use Rattle.std.proofs.lemmas.Fmt.{IsAscii-from_digits, decimal_is_IsNumeral, decimal-digits_value, digits_decimal, digits_value-decimal, decimal_nonempty, first_decimal, decimal_digit}
-use Rattle.row_base.specs.Numbers.{is_digits, is_decimal, is_number, is_i64, natural_in, decimal_in, long_in}
+use Rattle.row_base.specs.Numbers.{is_digits, is_decimal, is_number, is_i64, natural_in, with_digits, decimal_in, long_in}
 
 -- the test for digits
 tells_by_test : IsDigitsTest (λ ds. list_all is_ascii_digit ds ≡ true)
@@ -131,25 +131,53 @@ natural_by : (test fits : Bool) (text : List ℕ) → is_digits text ≡ test �
 unfolding natural_in
 natural_by test fits text is lt = rw (is, lt) refl
 
-natural_from : {E : Type 0} (r : Result ℕ E) (o : Option ℕ) (text : List ℕ) → is_digits text ≡ true
-    → OkIff r ((0 < length text) × (digits_value 10 text < 2 ^ 64)) (digits_value 10 text) → o ≡ result_ok r → o ≡ natural_in text
-natural_from (Ok n) o text is f e =
-    let lt : nat_lt (digits_value 10 text) (2 ^ 64) ≡ true = lt-ltb (digits_value 10 text) (2 ^ 64) f.0.1 in
-    e ∙ ap Some f.1 ∙ sym (natural_by true true text is lt)
-natural_from (Err fault) o text is f e = elim (cases_lt (digits_value 10 text) (2 ^ 64)) [
-  | inl under ↦ absurd (f ((digit_parts text is).0, under))
-  | inr over ↦ e ∙ sym (natural_by true false text is (le-ltb (digits_value 10 text) (2 ^ 64) over))
+-- more digits make no lesser number
+no_lesser : (n : ℕ) (ds : List ℕ) → n ≤ digits_value_after 10 n ds
+no_lesser n [] = omega arith
+no_lesser n (d ∷ ds) = omega (arith, no_lesser (n * 10 + digit_value d) ds)
+
+too_great : (digits : Bool) (n m : ℕ) → 2 ^ 64 ≤ n → None ≡ (if digits && nat_lt n (2 ^ 64) then Some m else None)
+too_great false n m over = refl
+too_great true n m over = rw (le-ltb n (2 ^ 64) over) refl
+
+-- digits behind a number, by whether the first is one, and whether it has room
+digits_by : (digit room : Bool) (n d : ℕ) (ds : List ℕ) → is_ascii_digit d ≡ digit → nat_lt (n * 10 + digit_value d) (2 ^ 64) ≡ room
+    → with_digits n (d ∷ ds) ≡ (if digit && room then with_digits (n * 10 + digit_value d) ds else None)
+unfolding with_digits
+digits_by true true n d ds is lt = rw (is, lt) refl
+digits_by true false n d ds is lt = rw (is, lt) refl
+digits_by false room n d ds is lt = rw is refl
+
+digits_are : (n : ℕ) (ds : List ℕ) → n < 2 ^ 64
+    → with_digits n ds ≡ (if list_all is_ascii_digit ds && nat_lt (digits_value_after 10 n ds) (2 ^ 64) then Some (digits_value_after 10 n ds) else None)
+unfolding with_digits
+digits_are n [] small = rw (lt-ltb n (2 ^ 64) small) refl
+digits_are n (d ∷ ds) small = elim (cases_Bool (is_ascii_digit d)) [
+  | inr other ↦ digits_by false (nat_lt (n * 10 + digit_value d) (2 ^ 64)) n d ds other refl ∙ rw other refl
+  | inl digit ↦ elim (cases_lt (n * 10 + digit_value d) (2 ^ 64)) [
+    | inl room ↦ digits_by true true n d ds digit (lt-ltb (n * 10 + digit_value d) (2 ^ 64) room) ∙ digits_are (n * 10 + digit_value d) ds room ∙ rw digit refl
+    | inr over ↦ digits_by true false n d ds digit (le-ltb (n * 10 + digit_value d) (2 ^ 64) over)
+        ∙ too_great (list_all is_ascii_digit (d ∷ ds)) (digits_value_after 10 (n * 10 + digit_value d) ds) (digits_value_after 10 (n * 10 + digit_value d) ds) (omega (arith, no_lesser (n * 10 + digit_value d) ds))
+  ]
 ]
 
-pub natural_parsed : {E : Type 0} (text bs : List ℕ) (r : Result ℕ E) (o : Option ℕ) → true ≡ is_digits text → bs ≡ text → ParsesUnsigned 64 10 bs r → o ≡ result_ok r → o ≡ natural_in text
-natural_parsed text bs r o is same h e = natural_from r o text (sym is) (parse_digits by_test 64 text r (rw same at h) (digit_parts text (sym is)).1) e
-
-pub digits_utf8 : (text : List ℕ) → true ≡ is_digits text → IsUtf8 text
-digits_utf8 text is = IsUtf8-from_ascii text (IsAscii-from_digits text (by_test.to text (digit_parts text (sym is)).1))
-
-pub no_natural : (text : List ℕ) → false ≡ is_digits text → None ≡ natural_in text
+-- one digit at least, behind no number
+natural_none : (text : List ℕ) → nat_lt 0 (length text) ≡ false → None ≡ natural_in text
 unfolding natural_in
-no_natural text is = rw (sym is) refl
+natural_none text none = rw none refl
+
+natural_some : (text : List ℕ) → nat_lt 0 (length text) ≡ true → with_digits 0 text ≡ natural_in text
+unfolding natural_in
+natural_some text some = rw some (digits_are 0 text (omega arith))
+
+pub no_digits : (text : List ℕ) → true ≡ (length text == 0) → None ≡ natural_in text
+no_digits text e = natural_none text (le-ltb 0 (length text) (omega (arith, eqb-true (length text) 0 (sym e))))
+
+pub some_digits : (text : List ℕ) → false ≡ (length text == 0) → with_digits 0 text ≡ natural_in text
+some_digits text e = elim (cases_lt 0 (length text)) [
+  | inl some ↦ natural_some text (lt-ltb 0 (length text) some)
+  | inr none ↦ absurd (eqb-false (length text) 0 (sym e) (omega arith))
+]
 
 -- ---- without a leading zero
 

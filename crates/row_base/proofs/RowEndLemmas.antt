@@ -1,6 +1,7 @@
 -- Rows, cut at their ends.
-use Rattle.std.proofs.Common.{◌≡◌, ◌≢◌, ℕ, zero, suc, ◌+◌, ◌-◌, ◌<◌, ◌≤◌, List, [], ◌∷◌, ◌++◌, length, take, drop, get_or, map, refl, sym, ◌∙◌, ap, subst, arith, length-append, length-drop, length-take, zero-add, add-zero, Some, None}
+use Rattle.std.proofs.Common.{◌≡◌, ◌≢◌, ℕ, zero, suc, ◌+◌, ◌-◌, ◌<◌, ◌≤◌, List, [], ◌∷◌, ◌++◌, length, take, drop, get_or, map, refl, sym, ◌∙◌, ap, subst, arith, length-append, length-drop, length-take, zero-add, add-zero, append_assoc, Some, None}
 use Rattle.std.proofs.lemmas.List.{take-append-le, drop-append-le, drop-drop, drop-take, take-take, take_all}
+use Rattle.std.proofs.Math.Seq.{take-add}
 use Rattle.std.specs.Prelude.{slice_get}
 use Rattle.row_base.specs.RowEnds.{rows_from, AreEnds, place_of_row}
 
@@ -181,3 +182,32 @@ rows_joined {A = A} es fs rest more by e same =
     rows_append 0 es (map (λ e. by + e) fs) rest more (rw (zero-add (length rest)) e)
     ∙ ap (λ k. rows_from 0 es rest ++ rows_from k (map (λ e. by + e) fs) more) from
     ∙ ap (λ (xs : List (List A)). rows_from 0 es rest ++ xs) (rows_by by 0 fs more)
+
+-- ---- rows that are handed out
+
+pub moved_more : {A : Type 0} (n : ℕ) (front rest left row after : List A) → row ≡ front ++ take n rest → left ≡ drop n rest → after ≡ row ++ take 1 left
+    → after ≡ front ++ take (n + 1) rest
+moved_more n front rest left row after so_far at more =
+    more ∙ rw (so_far, at) refl ∙ append_assoc front (take n rest) (take 1 (drop n rest)) ∙ rw (take-add n 1 rest) refl
+
+pub left_more : {A : Type 0} (n : ℕ) (rest left after : List A) → left ≡ drop n rest → after ≡ drop 1 left → after ≡ drop (n + 1) rest
+left_more n rest left after at more = more ∙ rw at refl ∙ drop-drop 1 n rest
+
+-- the row that comes first, and what is left behind it
+pub record FirstRow {A : Type 0} (at e : ℕ) (ends : List ℕ) (rest : List A) : Type 0 where
+  pub up : at ≤ e
+  pub later : AreEnds e (drop 1 ends) (e + length (drop (e - at) rest))
+  pub rows : rows_from at ends rest ≡ take (e - at) rest ∷ rows_from e (drop 1 ends) (drop (e - at) rest)
+
+pub first_row : {A : Type 0} (at e : ℕ) (ends : List ℕ) (rest : List A) → slice_get ends 0 ≡ Some e → AreEnds at ends (at + length rest) → FirstRow at e ends rest
+first_row at e [] rest first h = absurd cc
+first_row at e (x ∷ es) rest first h = subst (λ k. FirstRow at k (x ∷ es) rest) (inside first) (by h)
+  where
+    inside : Some x ≡ Some e → x ≡ e
+    inside same = cc
+
+    by : AreEnds at (x ∷ es) (at + length rest) → FirstRow at x (x ∷ es) rest
+    by (up, later) =
+        let le : x - at ≤ length rest = omega (arith, up, ends_le x es (at + length rest) later) in
+        let short : x + length (drop (x - at) rest) ≡ at + length rest = omega (arith, le, up, length-drop (x - at) rest) in
+        record { up = up; later = subst (AreEnds x es) (sym short) later; rows = refl }

@@ -4,6 +4,7 @@
 
 mod bag;
 mod date;
+mod into_rows;
 mod items;
 pub mod limits;
 mod memory;
@@ -18,6 +19,7 @@ mod text;
 
 pub use bag::rows_are_counted;
 pub use date::{dates_give_back, read_date, write_date};
+pub use into_rows::IntoRows;
 pub use items::Items;
 pub use memory::{NoMemory, OutOfMemory};
 pub use order::{cmp_rows, row_order_is_total};

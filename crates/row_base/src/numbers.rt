@@ -11,17 +11,37 @@ pub fn are_digits(text: &[u8]) -> bool
     text.iter().all(|byte| byte.is_ascii_digit())
 }
 
+/// The number that digits and one more write, where it has at most 64 bits.
+fn with_digit(number: u64, digit: u8) -> Option<u64>
+    ensures { result ≡ spec.with_digit number digit }
+{
+    if digit.is_ascii_digit() {
+        number.checked_mul(10)?.checked_add((digit - b'0') as u64)
+    } else {
+        None
+    }
+}
+
+/// The number that digits write behind those of another, where it has at most 64 bits.
+#[tactic(auto, unfolding(crate::specs::Numbers::with_digits))]
+fn with_digits(front: u64, digits: &[u8]) -> Option<u64>
+    ensures { result ≡ spec.with_digits front digits.now }
+{
+    let mut number = front;
+    for digit in digits {
+        number = with_digit(number, *digit)?;
+    }
+    Some(number)
+}
+
 /// The number of 64 bits that digits write, one digit at least. Leading zeros are taken.
 pub fn read_natural(text: &[u8]) -> Option<u64>
     ensures { result ≡ spec.natural_in text.now }
 {
-    if is_digits(text) {
-        match str::from_utf8(text) {
-            Ok(text) => text.parse::<u64>().ok(),
-            Err(_) => None,
-        }
-    } else {
+    if text.is_empty() {
         None
+    } else {
+        with_digits(0, text)
     }
 }
 

@@ -3,6 +3,7 @@ ghost use Rattle.std.specs.Prelude.{◌≡◌, ◌++◌, ◌∷◌, [], ◌<◌,
 ghost use Rattle.std.specs.List.{All};
 ghost use Rattle.row_base.specs.Columns.{head_or_null};
 
+use crate::into_rows::IntoRows;
 use crate::row_slice::RowSlice;
 use crate::{Datum, NoMemory, Row};
 use std::alloc::Global;
@@ -103,6 +104,13 @@ impl Rows {
         ensures few { length result < 2 ^ 64 }
     {
         RowSlice::cut(&self.ends, &self.values)
+    }
+
+    /// The rows, to be handed out by move.
+    pub fn into_rows(self) -> IntoRows
+        ensures { result ≡ self }
+    {
+        IntoRows::cut(self.ends, self.values)
     }
 
     /// A row.

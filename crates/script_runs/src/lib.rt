@@ -8,7 +8,7 @@ mod running;
 mod status;
 mod telling;
 
-pub use given::given_words;
+pub use given::words_or_status;
 pub use reading::read_script;
 pub use running::{ScriptReplies, new_store, run_script};
 pub use status::Status;

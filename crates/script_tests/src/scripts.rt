@@ -6,6 +6,7 @@ use row_base::limits::MAX_SCRIPT_BYTES;
 use script_text::ScriptFaultKind::{Form, Header, Limit, Session, Utf8};
 use script_text::{Script, ScriptFault, ScriptFaultKind, parse_script};
 use std::alloc::{AllocError, Global};
+use std::test::Fail;
 
 fn read(alloc: Global, bytes: &[u8]) -> Result<Script, ScriptFault> {
     if bytes.len() > MAX_SCRIPT_BYTES {
@@ -33,25 +34,19 @@ fn is_refused(alloc: Global, bytes: &[u8], line: u32, kind: ScriptFaultKind) -> 
     fault(alloc, bytes) == Some((line, kind))
 }
 
-/// The lines behind a header of one column and a session `a`.
-fn script(alloc: Global, lines: &[u8]) -> Result<Vec<u8>, AllocError> {
+/// The fault of the lines behind a header of one column and a session `a`.
+fn fault_behind(alloc: Global, lines: &[u8]) -> Result<Option<(u32, ScriptFaultKind)>, AllocError> {
     let mut bytes = Vec::from_slice(alloc, b"table (k long not null)\nsession a\n")?;
     bytes.extend_from_slice(lines)?;
-    Ok(bytes)
+    Ok(fault(alloc, &bytes))
 }
 
 fn is_read_behind(alloc: Global, lines: &[u8]) -> bool {
-    match script(alloc, lines) {
-        Ok(bytes) => is_read(alloc, &bytes),
-        Err(_) => false,
-    }
+    matches!(fault_behind(alloc, lines), Ok(None))
 }
 
 fn is_refused_behind(alloc: Global, lines: &[u8], line: u32, kind: ScriptFaultKind) -> bool {
-    match script(alloc, lines) {
-        Ok(bytes) => is_refused(alloc, &bytes, line, kind),
-        Err(_) => false,
-    }
+    matches!(fault_behind(alloc, lines), Ok(Some(at)) if at == (line, kind))
 }
 
 fn row_is(row: Option<&[Datum]>, first: i64, second: i64) -> bool {
@@ -173,47 +168,36 @@ fn names_faults_of_items(rt: HostRuntime) {
 /// The first bytes, then as many copies of the text as asked, then the last bytes.
 fn repeated(
     alloc: Global,
-    first: &[u8],
-    text: &[u8],
+    first: &str,
+    text: &str,
     count: u32,
-    last: &[u8],
+    last: &str,
 ) -> Result<Vec<u8>, AllocError> {
-    let mut bytes = Vec::from_slice(alloc, first)?;
+    let mut bytes = Vec::from_slice(alloc, first.as_bytes())?;
     for _ in 0..count {
-        bytes.extend_from_slice(text)?;
+        bytes.extend_from_slice(text.as_bytes())?;
     }
-    bytes.extend_from_slice(last)?;
+    bytes.extend_from_slice(last.as_bytes())?;
     Ok(bytes)
 }
 
 #[test]
-fn names_the_statement_past_the_limit(rt: HostRuntime) {
+fn names_the_line_past_a_limit(rt: HostRuntime) -> Result<(), Fail> {
     let alloc = rt.alloc();
-    match repeated(alloc, b"", b"select\n", 4_096, b"") {
-        Ok(lines) => assert!(rt; is_read_behind(alloc, &lines)),
-        Err(_) => assert!(rt; false),
+    for (first, text, count, last, wanted) in [
+        ("", "select\n", 4_096, "", None),
+        ("", "select\n", 4_097, "", Some((4_099, Limit))),
+        ("schedule\n", "a ", 1_048_576, "\n", None),
+        ("schedule\n", "a ", 1_048_576, "\na\n", Some((5, Limit))),
+    ] {
+        let lines = repeated(alloc, first, text, count, last)?;
+        assert!(rt; fault_behind(alloc, &lines)? == wanted, "{text}");
     }
-    match repeated(alloc, b"", b"select\n", 4_097, b"") {
-        Ok(lines) => assert!(rt; is_refused_behind(alloc, &lines, 4_099, Limit)),
-        Err(_) => assert!(rt; false),
-    }
-}
-
-#[test]
-fn names_the_item_past_the_limit(rt: HostRuntime) {
-    let alloc = rt.alloc();
-    match repeated(alloc, b"schedule\n", b"a ", 1_048_576, b"\n") {
-        Ok(lines) => assert!(rt; is_read_behind(alloc, &lines)),
-        Err(_) => assert!(rt; false),
-    }
-    match repeated(alloc, b"schedule\n", b"a ", 1_048_576, b"\na\n") {
-        Ok(lines) => assert!(rt; is_refused_behind(alloc, &lines, 5, Limit)),
-        Err(_) => assert!(rt; false),
-    }
+    Ok(())
 }
 
 /// A header, and as many sessions as asked, each of another name of two letters; then the end.
-fn sessions(alloc: Global, count: u8, end: &[u8]) -> Result<Vec<u8>, AllocError> {
+fn sessions(alloc: Global, count: u8, end: &str) -> Result<Vec<u8>, AllocError> {
     let mut bytes = Vec::from_slice(alloc, b"table (k long not null)\n")?;
     for i in 0..count {
         bytes.extend_from_slice(b"session ")?;
@@ -221,23 +205,20 @@ fn sessions(alloc: Global, count: u8, end: &[u8]) -> Result<Vec<u8>, AllocError>
         bytes.push(b'a' + i % 8)?;
         bytes.push(b'\n')?;
     }
-    bytes.extend_from_slice(end)?;
+    bytes.extend_from_slice(end.as_bytes())?;
     Ok(bytes)
 }
 
 #[test]
-fn names_the_session_past_the_limit(rt: HostRuntime) {
+fn names_the_session_past_the_limit(rt: HostRuntime) -> Result<(), Fail> {
     let alloc = rt.alloc();
-    match sessions(alloc, 64, b"select\n") {
-        Ok(bytes) => assert!(rt; is_read(alloc, &bytes)),
-        Err(_) => assert!(rt; false),
+    for (count, end, wanted) in [
+        (64, "select\n", None),
+        (65, "", Some((66, Limit))),
+        (64, "session aa\n", Some((66, Session))),
+    ] {
+        let bytes = sessions(alloc, count, end)?;
+        assert!(rt; fault(alloc, &bytes) == wanted, "{end}");
     }
-    match sessions(alloc, 65, b"") {
-        Ok(bytes) => assert!(rt; is_refused(alloc, &bytes, 66, Limit)),
-        Err(_) => assert!(rt; false),
-    }
-    match sessions(alloc, 64, b"session aa\n") {
-        Ok(bytes) => assert!(rt; is_refused(alloc, &bytes, 66, Session)),
-        Err(_) => assert!(rt; false),
-    }
+    Ok(())
 }

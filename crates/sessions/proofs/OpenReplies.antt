@@ -2,23 +2,20 @@
 use Rattle.std.proofs.Common.{◌≡◌, inl, inr, ℕ, List, [], ap, subst}
 use Rattle.std.specs.Prelude.{Option, Some, None, MatchOption, Result}
 use Rattle.edge_api.specs.declared.call.Call.{Call}
-use Rattle.edge_api.specs.declared.call.Listed.{Listed}
 use Rattle.op_types.specs.declared.refusal.Refusal.TheVariants as refusal
 use Rattle.op_types.specs.declared.reply.Reply.TheVariants.{Refused}
 use Rattle.call_phases.specs.Phases.{Entries}
 use Rattle.call_phases.specs.Ending.{Ending, ThenBy}
 use Rattle.call_phases.specs.Endings.{IsOpenEnd}
 use Rattle.call_phases.specs.Step.{Steps}
-use Rattle.call_phases.specs.Clock as clock
-use Rattle.call_phases.specs.List as list
+use Rattle.call_phases.specs.Request as request
+use Rattle.call_phases.specs.Requests.{reading_call, prefix_call, ReadingRest, PrefixRest}
 use Rattle.call_phases.specs.GetsAt as gets
 use Rattle.call_phases.specs.Puts as puts
 use Rattle.call_phases.specs.declared.fault.CallFault.{CallFault}
 use Rattle.call_phases.specs.declared.fault.CallFault.TheVariants as of_call
-use Rattle.call_phases.specs.declared.clock.ClockStage.{ClockStage}
-use Rattle.call_phases.specs.declared.clock.ClockStage.TheVariants as at_clock
-use Rattle.call_phases.specs.declared.list.ListStage.{ListStage}
-use Rattle.call_phases.specs.declared.list.ListStage.TheVariants as at_list
+use Rattle.call_phases.specs.declared.request.RequestStage.{RequestStage}
+use Rattle.call_phases.specs.declared.request.RequestStage.TheVariants as at_request
 use Rattle.call_phases.specs.declared.gets.GetFault.{GetFault}
 use Rattle.call_phases.specs.declared.gets.GetFault.TheVariants as of_get
 use Rattle.call_phases.specs.declared.gets.GetsStage.{GetsStage}
@@ -50,15 +47,11 @@ use Rattle.txn_machine.specs.Readers.{wanted_commit, commits_after, wanted_file,
 
 -- Phases: each is open at a call, where no entries follow
 
-clock_open : (s : ClockStage) (c : Call) (o : Ending CallFault ℕ) → clock.call_at s ≡ Some c → clock.RestAt s [] o → IsOpenEnd of_call.NoMemory o
-clock_open (at_clock.Asking r) c o is h = h
-clock_open (at_clock.Read t) c o is h = cc
-clock_open (at_clock.Failed f) c o is h = cc
-
-list_open : (s : ListStage) (c : Call) (o : Ending CallFault (List Listed)) → list.call_at s ≡ Some c → list.RestAt s [] o → IsOpenEnd of_call.NoMemory o
-list_open (at_list.Asking prefix) c o is h = h
-list_open (at_list.Told names) c o is h = cc
-list_open (at_list.Failed f) c o is h = cc
+request_open : {Q V : Type 0} (asks : Q → Call) (rest : Q → Entries → Ending CallFault V → Type 0) (s : RequestStage Q V) (c : Call) (o : Ending CallFault V) → ((q : Q) → rest q [] o → IsOpenEnd of_call.NoMemory o)
+    → request.call_at asks s ≡ Some c → request.RestAt rest s [] o → IsOpenEnd of_call.NoMemory o
+request_open asks rest (at_request.Asking q) c o waits is h = waits q h
+request_open asks rest (at_request.Answered v) c o waits is h = cc
+request_open asks rest (at_request.Failed f) c o waits is h = cc
 
 match_some : {A : Type 0} (o : Option A) (P Q : Type 0) (a : A) → o ≡ Some a → MatchOption o P (λ x. Q) → Q
 match_some None P Q a is h = cc
@@ -97,8 +90,8 @@ refused_is : (f : Finish) (kept : Option Kept) → Some f ≡ Some (refused kept
 refused_is f kept is = ap (λ (x : Finish). x.reply) (some_same f (refused kept refusal.NoMemory) is)
 
 pub open_reply : (s : Stage) (c : Call) (f : Finish) → call_of s ≡ Some c → Rest s [] (Some f) → f.reply ≡ Refused refusal.NoMemory
-open_reply (stage.Clock s k) c f is h = open_steps (clock.RestAt k.stage) of_call.NoMemory (ByCall s.kept) (NextClock s) f (λ o. clock_open k.stage c o is) (refused_is f s.kept) h
-open_reply (stage.List s l) c f is h = open_steps (list.RestAt l.names.stage) of_call.NoMemory (ByCall s.kept) (NextList s) f (λ o. list_open l.names.stage c o is) (refused_is f s.kept) h
+open_reply (stage.Clock s k) c f is h = open_steps (request.RestAt ReadingRest k.stage) of_call.NoMemory (ByCall s.kept) (NextClock s) f (λ o. request_open reading_call ReadingRest k.stage c o (λ q h. h) is) (refused_is f s.kept) h
+open_reply (stage.List s l) c f is h = open_steps (request.RestAt PrefixRest l.names.stage) of_call.NoMemory (ByCall s.kept) (NextList s) f (λ o. request_open prefix_call PrefixRest l.names.stage c o (λ q h. h) is) (refused_is f s.kept) h
 open_reply (stage.Load s g) c f is h =
     open_steps (gets.RestAt wanted_commit commits_after g.stage) of_get.NoMemory (ByLoad s.spare) (NextLoad s) f (λ o. gets_open wanted_commit commits_after g.stage c o (λ r name e. e) is) (refused_is f s.spare) h
 open_reply (stage.Scan s g) c f is h =

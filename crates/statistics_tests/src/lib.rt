@@ -1,5 +1,7 @@
-//! Tests of the statistics of files.
+//! Tests of statistics and of what files may match.
 #![tactic(auto)]
 
+#[cfg(test)]
+mod pruning;
 #[cfg(test)]
 mod statistics;

@@ -1,33 +1,38 @@
--- What a statement's operation does to the files of a table.
-use Rattle.std.specs.Prelude.{ℕ, Bool, true, not, List, [], ◌∷◌, ◌++◌, None}
-use Rattle.std.specs.List.{filter}
+-- What a statement's operation does to the files of a table, and what is known of it before its commit is put.
+use Rattle.std.specs.Prelude.{◌≡◌, ℕ, false, not, List, [], ◌∷◌, Option, None, Some, if◌then◌else◌}
 use Rattle.edge_api.specs.declared.call.Tag.{Tag}
-use Rattle.row_base.specs.Bags.{others}
 use Rattle.table_rules.specs.Names.{data_text}
-use Rattle.snapshot_replay.specs.Table.{Add, Commit, paths_of}
-use Rattle.table_laws.specs.Rows.{Row}
-use Rattle.table_laws.specs.Operations.{Operation, Insert, Change, Compact, is_insert, is_compaction, got_files, removed_files}
-use Rattle.table_laws.specs.Files.{rows_in, lines_of}
-
--- whether what is said of a file's rows allows a row of a scope. Nothing is said so far, so each file may have one
-abbrev pub may_match : (Row → Bool) → List ℕ → Bool
-may_match P stats = true
-
--- the rows of the new file, by the live files and the rows under their paths
-abbrev pub new_rows : Operation → (List ℕ → List Row) → List Add → List Row
-new_rows (Insert rows) view fs = rows
-new_rows (Change P g r) view fs = others P (rows_in view (removed_files view may_match (Change P g r) fs)) ++ g (filter P (rows_in view (got_files may_match (Change P g r) fs)))
-new_rows (Compact pick) view fs = rows_in view (removed_files view may_match (Compact pick) fs)
+use Rattle.snapshot_replay.specs.Table.{Commit as LogCommit}
+use Rattle.statement_calls.specs.Texts.{read_commit}
+use Rattle.table_changes.specs.Rows.{Row}
+use Rattle.table_changes.specs.Table.{File, Meta, Commit, Level, Serializable, level_of, lines_of}
+use Rattle.table_changes.specs.Conflicts.{Clash, is_literal, first_clash}
+use Rattle.table_changes.specs.Operations.{Operation, taken_files, reads_of}
+use Rattle.table_laws.specs.Commits.{file_of, changes_of}
+use Rattle.table_laws.specs.Operations.{Scope, passes, may}
 
 -- the data file of a statement that started then
-abbrev pub new_file : Tag → ℕ → Add
-new_file tag start = record { path = data_text tag start 0; stats = [] }
+abbrev pub new_file : Tag → ℕ → File
+new_file tag start = file_of (record { path = data_text tag start 0; stats = [] })
 
--- the commit of a statement that started then
-abbrev pub effect_of : Tag → ℕ → Operation → (List ℕ → List Row) → List Add → Commit
+-- the commit of a statement that started then, by the files of the version that it read and the rows of those that it got
+abbrev pub effect_of : Tag → ℕ → Operation Scope → (File → List Row) → List File → Commit
 effect_of tag start op view fs = record {
-  columns = None;
-  lines = lines_of (paths_of (removed_files view may_match op fs)) (new_file tag start ∷ []);
-  blind = is_insert op;
-  changes = not (is_compaction op);
+  blind = is_literal op.kind;
+  protocol = false;
+  meta = None;
+  txns = [];
+  lines = lines_of 0 (not op.moves) (taken_files view op fs) (new_file tag start ∷ []);
 }
+
+-- the text of a version's commit says this
+abbrev pub Says : ℕ → List ℕ → Commit → Type 0
+Says version text said = (t : LogCommit) × (read_commit version text ≡ Some t) × (changes_of t ≡ said)
+
+-- the level at which an operation over a table of this metadata is checked
+abbrev pub level_in : Operation Scope → Option Meta → Level
+level_in op meta = if op.strict then Serializable else level_of meta
+
+-- the first clash of an operation with a winner
+abbrev pub judge_of : Option Meta → Operation Scope → (File → List Row) → List File → LogCommit → Option Clash
+judge_of meta op view fs t = first_clash (reads_of passes may (level_in op meta) None view op fs) (changes_of t)

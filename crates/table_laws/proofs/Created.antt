@@ -13,7 +13,6 @@ use Rattle.call_phases.specs.Phases.{Entries}
 use Rattle.statement_calls.specs.declared.finish.Finish.{Finish}
 use Rattle.statement_calls.specs.Answered.{names_of}
 use Rattle.actor_core.specs.Entries.{own}
-use Rattle.table_laws.specs.Levels.{Level, Serializable}
 use Rattle.table_laws.specs.History.{Put, history, put_under, body_of}
 use Rattle.table_laws.specs.Runs.{replies_of, IsRun}
 use Rattle.table_laws.proofs.Sessions.{SessionKnows, GotIn, StoredIn}
@@ -26,8 +25,8 @@ use Rattle.table_laws.proofs.Tries.{put_turned}
 use Rattle.table_laws.proofs.Refused.{put_faulted}
 use Rattle.table_laws.proofs.Ends.{run_end, claims}
 
-module _ (level : Level) (K : Tag → List ℕ → List ℕ → Type 0) (script : Tag → Option Statement) (replies : Tag → Option Reply) (tags : (tag : Tag) (statement : Statement) → script tag ≡ Some statement → IsTag tag)
-    (past : Entries) (os : Objects) (ps : List Put) (s : Stands level K script replies tags past os ps) (journal : Entries) (is_past : past ≡ backwards [] journal) where
+module _ (K : Tag → List ℕ → List ℕ → Type 0) (script : Tag → Option Statement) (replies : Tag → Option Reply) (tags : (tag : Tag) (statement : Statement) → script tag ≡ Some statement → IsTag tag)
+    (past : Entries) (os : Objects) (ps : List Put) (s : Stands K script replies tags past os ps) (journal : Entries) (is_past : past ≡ backwards [] journal) where
   -- version 0 as the statement that made it finds it
   record Made (t : Tag) (text : List ℕ) : Type 0 where
     by : Put
@@ -52,6 +51,6 @@ module _ (level : Level) (K : Tag → List ℕ → List ℕ → Type 0) (script 
 pub created_at : (limit : ℕ) (script : Tag → Option Statement) (outcomes : Tag → Option Finish) (moments : List Moment) → IsLegal [] 0 moments → IsRun limit script outcomes (entries_of moments)
     → RepliesCreated script (replies_of outcomes) moments
 created_at limit script outcomes moments legal run t st is_st is_reply =
-    let e = run_end Serializable limit script outcomes moments legal run in
-    let claim = claims Serializable limit script outcomes moments legal run e t st Created is_st is_reply in
-    (claim.spec, claim.is_table, has_created Serializable (SessionKnows (entries_of moments)) script (replies_of outcomes) run.tags e.past e.os (history [] moments) e.stands (entries_of moments) e.is t st claim)
+    let e = run_end limit script outcomes moments legal run in
+    let claim = claims limit script outcomes moments legal run e t st Created is_st is_reply in
+    (claim.spec, claim.is_table, has_created (SessionKnows (entries_of moments)) script (replies_of outcomes) run.tags e.past e.os (history [] moments) e.stands (entries_of moments) e.is t st claim)

@@ -6,16 +6,15 @@ use Rattle.edge_api.specs.Journal.{Moment, IsLegal, entries_of}
 use Rattle.op_types.specs.declared.statement.Statement.{Statement}
 use Rattle.op_types.specs.declared.reply.Reply.{Reply}
 use Rattle.op_types.specs.declared.reply.Reply.TheVariants.{Committed as CommittedReply, Rows}
-use Rattle.snapshot_replay.specs.Table.{Action, reconciled}
 use Rattle.call_phases.specs.Phases.{Entries}
 use Rattle.statement_calls.specs.declared.finish.Finish.{Finish}
 use Rattle.statement_calls.specs.declared.finish.Kept.{Kept}
 use Rattle.actor_core.specs.Entries.{own}
-use Rattle.table_laws.specs.Files.{rows_in}
-use Rattle.table_laws.specs.Levels.{Level, Serializable}
-use Rattle.table_laws.specs.History.{body_of, rows_of, history}
+use Rattle.table_changes.specs.Table.{FileLine, reconciled, rows_in}
+use Rattle.table_laws.specs.History.{body_of, schema_at, rows_of, history}
 use Rattle.table_laws.specs.Runs.{kept_in, kept_at, kept_before, replies_of, BeginsWith, IsAnsweredPart, IsRun}
 use Rattle.table_laws.specs.Laws.{VersionsAreSerial, FirstIsEmpty, FirstMakesTable, CommitsOnce, CommitsRead, FilesRead, CommitsLand, RepliesCommitted, RepliesRead}
+use Rattle.table_laws.specs.Folded.{RowsAreFolded}
 use Rattle.table_laws.proofs.Sessions.{SessionKnows, KnownKept}
 use Rattle.table_laws.proofs.Lawful.{ClaimOf}
 use Rattle.table_laws.proofs.Known.{kept_more}
@@ -25,8 +24,9 @@ use Rattle.table_laws.proofs.Shown.{InPut, own_got, got_at, stored_at}
 use Rattle.table_laws.proofs.Journals.{End, Keeps, KeepsPart, nothing_stands, whole}
 use Rattle.table_laws.proofs.Readings.{empty_first}
 use Rattle.table_laws.proofs.Serial.{makes_table, commits_read, files_read, step, lands, has_committed, has_read, once}
+use Rattle.table_laws.proofs.Folded.{rows_folded}
 
-module _ (level : Level) (limit : ℕ) (script : Tag → Option Statement) (outcomes : Tag → Option Finish) (moments : List Moment) (legal : IsLegal [] 0 moments) (run : IsRun limit script outcomes (entries_of moments)) where
+module _ (limit : ℕ) (script : Tag → Option Statement) (outcomes : Tag → Option Finish) (moments : List Moment) (legal : IsLegal [] 0 moments) (run : IsRun limit script outcomes (entries_of moments)) where
   abbrev journal : Entries
   journal = entries_of moments
 
@@ -49,19 +49,19 @@ module _ (level : Level) (limit : ℕ) (script : Tag → Option Statement) (outc
       let a = run.answered u in
       kept_more (K u) (K t) (λ n b k. (k.0, k.1, k.2)) (kept_in (outcomes u)) (part_kept u a.0 (begun_known u a.0 (kept_known u n) a.1) (script u) a.2)
 
-  pub keeps_answered : Keeps level K script (replies_of outcomes) run.tags [] journal
+  pub keeps_answered : Keeps K script (replies_of outcomes) run.tags [] journal
   keeps_answered t = part (run.answered t).0 (begun_known t (run.answered t).0 (kept_known t t.statement) (run.answered t).1) (script t) refl (run.answered t).2
     where
-      part : (kept : Option Kept) → KnownKept (K t) kept → (s : Option Statement) → script t ≡ s → IsAnsweredPart limit t kept s (own t journal) (outcomes t) → KeepsPart level K script (replies_of outcomes) run.tags t s (replies_of outcomes t) [] (own t journal)
+      part : (kept : Option Kept) → KnownKept (K t) kept → (s : Option Statement) → script t ≡ s → IsAnsweredPart limit t kept s (own t journal) (outcomes t) → KeepsPart K script (replies_of outcomes) run.tags t s (replies_of outcomes t) [] (own t journal)
       part kept held None e h = h.0
       part kept held (Some statement) e h =
-          answered_lawful level (K t) t limit run.limited kept held statement (λ rows is. run.faithful t rows (e ∙ ap (λ (s : Statement). Some s) is)) (own t journal) (outcomes t) h
+          answered_lawful (K t) t limit run.limited kept held statement (λ rows is. run.faithful t rows (e ∙ ap (λ (s : Statement). Some s) is)) (own t journal) (outcomes t) h
 
   abbrev at_end : Type 0
-  at_end = End level K script (replies_of outcomes) run.tags [] journal (history [] moments)
+  at_end = End K script (replies_of outcomes) run.tags [] journal (history [] moments)
 
   pub run_end : at_end
-  run_end = whole level K script (replies_of outcomes) run.tags moments [] [] [] 0 (nothing_stands level K script (replies_of outcomes) run.tags) legal keeps_answered
+  run_end = whole K script (replies_of outcomes) run.tags moments [] [] [] 0 (nothing_stands K script (replies_of outcomes) run.tags) legal keeps_answered
 
   -- what a session knows was put by the end
   pub known_at : (e : at_end) (t : Tag) (n b : List ℕ) → K t n b → InPut (history [] moments) n b
@@ -73,51 +73,56 @@ module _ (level : Level) (limit : ℕ) (script : Tag → Option Statement) (outc
   -- what the reply of a statement claims holds at the end
   pub claims : (e : at_end) (t : Tag) (st : Statement) (reply : Reply) → script t ≡ Some st → replies_of outcomes t ≡ Some reply → ClaimOf (K t) t st (own t e.past) reply
   claims e t st reply is_st is_reply =
-      subst (λ (r : Option Reply). KeepsPart level K script (replies_of outcomes) run.tags t (Some st) r (own t e.past) []) is_reply
-      (subst (λ (o : Option Statement). KeepsPart level K script (replies_of outcomes) run.tags t o (replies_of outcomes t) (own t e.past) []) is_st (e.keeps t))
+      subst (λ (r : Option Reply). KeepsPart K script (replies_of outcomes) run.tags t (Some st) r (own t e.past) []) is_reply
+      (subst (λ (o : Option Statement). KeepsPart K script (replies_of outcomes) run.tags t o (replies_of outcomes t) (own t e.past) []) is_st (e.keeps t))
 
 module _ (limit : ℕ) (script : Tag → Option Statement) (outcomes : Tag → Option Finish) (moments : List Moment) (legal : IsLegal [] 0 moments) (run : IsRun limit script outcomes (entries_of moments)) where
-  pub serial_at : (level : Level) → VersionsAreSerial level script moments
-  serial_at level v small is =
-      let e = run_end level limit script outcomes moments legal run in
-      step level (SessionKnows (entries_of moments)) script (replies_of outcomes) run.tags e.past e.os (history [] moments) e.stands (known_at level limit script outcomes moments legal run e) (entries_of moments) e.is v small is
+  pub serial_at : VersionsAreSerial script moments
+  serial_at v small is =
+      let e = run_end limit script outcomes moments legal run in
+      step (SessionKnows (entries_of moments)) script (replies_of outcomes) run.tags e.past e.os (history [] moments) e.stands (known_at limit script outcomes moments legal run e) (entries_of moments) e.is v small is
+
+  pub folded_at : RowsAreFolded script moments
+  folded_at v small is none =
+      let e = run_end limit script outcomes moments legal run in
+      rows_folded (SessionKnows (entries_of moments)) script (replies_of outcomes) run.tags e.past e.os (history [] moments) e.stands (known_at limit script outcomes moments legal run e) (entries_of moments) e.is v small is none
 
   pub once_at : CommitsOnce moments
   once_at v w p q small also is there same =
-      let e = run_end Serializable limit script outcomes moments legal run in
-      once Serializable (SessionKnows (entries_of moments)) script (replies_of outcomes) run.tags e.past e.os (history [] moments) e.stands (known_at Serializable limit script outcomes moments legal run e) v w p q small also is there same
+      let e = run_end limit script outcomes moments legal run in
+      once (SessionKnows (entries_of moments)) script (replies_of outcomes) run.tags e.past e.os (history [] moments) e.stands (known_at limit script outcomes moments legal run e) v w p q small also is there same
 
   pub first_at : FirstMakesTable script moments
   first_at p is =
-      let e = run_end Serializable limit script outcomes moments legal run in
-      makes_table Serializable (SessionKnows (entries_of moments)) script (replies_of outcomes) run.tags e.past e.os (history [] moments) e.stands (known_at Serializable limit script outcomes moments legal run e) p is
+      let e = run_end limit script outcomes moments legal run in
+      makes_table (SessionKnows (entries_of moments)) script (replies_of outcomes) run.tags e.past e.os (history [] moments) e.stands (known_at limit script outcomes moments legal run e) p is
 
   pub commits_at : CommitsRead moments
   commits_at v k small is le =
-      let e = run_end Serializable limit script outcomes moments legal run in
-      commits_read Serializable (SessionKnows (entries_of moments)) script (replies_of outcomes) run.tags e.past e.os (history [] moments) e.stands (known_at Serializable limit script outcomes moments legal run e) v k small is le
+      let e = run_end limit script outcomes moments legal run in
+      commits_read (SessionKnows (entries_of moments)) script (replies_of outcomes) run.tags e.past e.os (history [] moments) e.stands (known_at limit script outcomes moments legal run e) v k small is le
 
   pub files_at : FilesRead moments
   files_at v small is =
-      let e = run_end Serializable limit script outcomes moments legal run in
-      files_read Serializable (SessionKnows (entries_of moments)) script (replies_of outcomes) run.tags e.past e.os (history [] moments) e.stands (known_at Serializable limit script outcomes moments legal run e) v small is
+      let e = run_end limit script outcomes moments legal run in
+      files_read (SessionKnows (entries_of moments)) script (replies_of outcomes) run.tags e.past e.os (history [] moments) e.stands (known_at limit script outcomes moments legal run e) v small is
 
   pub lands_at : CommitsLand moments
   lands_at v p small is =
-      let e = run_end Serializable limit script outcomes moments legal run in
-      lands Serializable (SessionKnows (entries_of moments)) script (replies_of outcomes) run.tags e.past e.os (history [] moments) e.stands (known_at Serializable limit script outcomes moments legal run e) (entries_of moments) e.is v p small is
+      let e = run_end limit script outcomes moments legal run in
+      lands (SessionKnows (entries_of moments)) script (replies_of outcomes) run.tags e.past e.os (history [] moments) e.stands (known_at limit script outcomes moments legal run e) (entries_of moments) e.is v p small is
 
   pub committed_at : RepliesCommitted script (replies_of outcomes) moments
   committed_at t st version read attempts checkpoint is_st is_reply =
-      let e = run_end Serializable limit script outcomes moments legal run in
-      has_committed Serializable (SessionKnows (entries_of moments)) script (replies_of outcomes) run.tags e.past e.os (history [] moments) e.stands (known_at Serializable limit script outcomes moments legal run e) (entries_of moments) e.is t st
-      is_st version read attempts (claims Serializable limit script outcomes moments legal run e t st (CommittedReply version read attempts checkpoint) is_st is_reply)
+      let e = run_end limit script outcomes moments legal run in
+      has_committed (SessionKnows (entries_of moments)) script (replies_of outcomes) run.tags e.past e.os (history [] moments) e.stands (known_at limit script outcomes moments legal run e) (entries_of moments) e.is t st
+      is_st version read attempts (claims limit script outcomes moments legal run e t st (CommittedReply version read attempts checkpoint) is_st is_reply)
 
   pub read_at : RepliesRead script (replies_of outcomes) moments
   read_at t st version given read live_files is_st is_reply =
-      let e = run_end Serializable limit script outcomes moments legal run in
-      has_read Serializable (SessionKnows (entries_of moments)) script (replies_of outcomes) run.tags e.past e.os (history [] moments) e.stands (known_at Serializable limit script outcomes moments legal run e) (entries_of moments) e.is t
-      version given read live_files (claims Serializable limit script outcomes moments legal run e t st (Rows version given read live_files) is_st is_reply)
+      let e = run_end limit script outcomes moments legal run in
+      has_read (SessionKnows (entries_of moments)) script (replies_of outcomes) run.tags e.past e.os (history [] moments) e.stands (known_at limit script outcomes moments legal run e) (entries_of moments) e.is t
+      version given read live_files (claims limit script outcomes moments legal run e t st (Rows version given read live_files) is_st is_reply)
 
 pub first_is_empty : (moments : List Moment) → FirstIsEmpty moments
-first_is_empty moments = ap (λ (ls : List Action). rows_in (rows_of (history [] moments)) (reconciled [] ls)) (empty_first (history [] moments))
+first_is_empty moments = ap (λ (ls : List FileLine). rows_in (rows_of (history [] moments) (schema_at (history [] moments) 0)) (reconciled [] ls)) (empty_first (history [] moments))

@@ -1,63 +1,74 @@
--- Versions that are serial at the stricter level are a fold of their operations.
-use Rattle.std.proofs.Common.{◌≡◌, ℕ, zero, suc, Bool, not, List, [], ◌++◌, refl, sym, ◌∙◌, ap, arith}
-use Rattle.std.specs.Prelude.{Option, Some}
-use Rattle.std.specs.List.{filter}
+-- Where no operation up to a version can miss a row, the version is the fold of them: the law of changes (each_version_is_folded) at what a journal shows.
+use Rattle.std.proofs.Common.{◌≡◌, ℕ, zero, suc, ◌≤◌, ◌<◌, ◌^◌, List, [], ◌∷◌, map, refl, sym, ◌∙◌, ap, subst, arith}
+use Rattle.std.specs.Prelude.{Option, Some, None, option_and_then}
 use Rattle.edge_api.specs.declared.call.Tag.{Tag}
-use Rattle.edge_api.specs.Journal.{Moment}
-use Rattle.row_base.specs.RowOrder.{row_eq}
-use Rattle.row_base.specs.Bags.{count_of, SameRows, without, others}
-use Rattle.row_base.proofs.Bags.{SameBag-filter, count_of-append, count_of-without}
-use Rattle.row_base.proofs.RowOrder.{row_decides}
+use Rattle.edge_api.specs.Journal.{Objects}
 use Rattle.op_types.specs.declared.statement.Statement.{Statement}
-use Rattle.table_rules.specs.Names.{commit_text}
-use Rattle.table_laws.specs.Rows.{Row}
-use Rattle.table_laws.specs.Operations.{Operation, Insert, Change, Compact, operation_of, scope_of, result_of, operated}
-use Rattle.table_laws.specs.Levels.{Serializable}
-use Rattle.table_laws.specs.Serial.{missed}
-use Rattle.table_laws.specs.History.{Put, history, put_under, rows_at}
-use Rattle.table_laws.specs.Laws.{statement_of, operation_by, VersionsAreSerial, FirstIsEmpty}
-use Rattle.table_laws.specs.Folded.{done_by, folded, RowsAreFolded}
+use Rattle.op_types.specs.declared.reply.Reply.{Reply}
+use Rattle.table_rules.specs.Told.{IsTag}
+use Rattle.call_phases.specs.Phases.{Entries}
+use Rattle.table_changes.specs.Rows.{Row}
+use Rattle.table_changes.specs.Operations.{Operation, SameIfGiven, operated}
+use Rattle.table_changes.specs.Statements.{making_of}
+use Rattle.table_changes.specs.Laws.{Landed, IsInOrder}
+use Rattle.table_changes.specs.Laws.{folded as folded_ops}
+use Rattle.table_changes.proofs.Folded.{each_version_is_folded}
+use Rattle.table_laws.specs.Operations.{Scope, NoRow, passes, may}
+use Rattle.table_laws.specs.History.{Put, commit_at, rows_of, rows_at, IsCommitted}
+use Rattle.table_laws.specs.Laws.{operation_at, appended}
+use Rattle.table_laws.specs.Folded.{done_by, folded, NoneMisses}
+use Rattle.table_laws.proofs.Shown.{InPut, backwards}
+use Rattle.table_laws.proofs.Journals.{Stands}
+use Rattle.table_laws.proofs.Readings.{empty_first}
+use Rattle.table_laws.proofs.Serial.{facts, is_appended, op_is, read_is, widen_is}
 
-same_filter : (p : Row → Bool) (xs ys : List Row) → SameRows xs ys → SameRows (filter p xs) (filter p ys)
-same_filter = SameBag-filter row_eq row_decides
+map_same : (xs : List Row) → map (λ x. x) xs ≡ xs
+map_same [] = refl
+map_same (x ∷ xs) = ap (λ (l : List Row). x ∷ l) (map_same xs)
 
-same_result : (op : Operation) (xs ys : List Row) → SameRows xs ys → SameRows (result_of op xs) (result_of op ys)
-same_result (Insert rows) xs ys same = λ x. refl
-same_result (Change P g r) xs ys same = r xs ys same
-same_result (Compact pick) xs ys same = λ x. refl
+-- an operation that is there; where none is, one that changes nothing
+abbrev or_making : Option (Operation Scope) → Operation Scope
+or_making None = making_of NoRow
+or_making (Some op) = op
 
--- an operation looks at the bag alone
-same_operated : (op : Operation) (xs ys : List Row) → SameRows xs ys → SameRows (operated op xs) (operated op ys)
-same_operated op xs ys same x =
-    let a = count_of-append x (others (scope_of op) xs) (result_of op (filter (scope_of op) xs)) in
-    let b = count_of-append x (others (scope_of op) ys) (result_of op (filter (scope_of op) ys)) in
-    let c = same_filter (λ (y : Row). not (scope_of op y)) xs ys same x in
-    let d = same_result op (filter (scope_of op) xs) (filter (scope_of op) ys) (same_filter (scope_of op) xs ys same) x in
-    omega arith
+module _ (K : Tag → List ℕ → List ℕ → Type 0) (script : Tag → Option Statement) (replies : Tag → Option Reply) (tags : (tag : Tag) (statement : Statement) → script tag ≡ Some statement → IsTag tag)
+    (past : Entries) (os : Objects) (ps : List Put) (s : Stands K script replies tags past os ps) (known : (t : Tag) (n b : List ℕ) → K t n b → InPut ps n b) (journal : Entries) (is_past : past ≡ backwards [] journal) where
+  abbrev op_after : ℕ → Operation Scope
+  op_after v = or_making (operation_at script journal ps (suc v))
 
--- where no row is missed, the operation is done on all
-none_missed : (op : Operation) (now after m : List Row) → SameRows m [] → SameRows after (operated op (without now m) ++ m) → SameRows after (operated op now)
-none_missed op now after m none result x =
-    let all : SameRows (without now m) now = λ y. let a = count_of-without y now m in let b = none y in omega arith in
-    let a = result x in
-    let b = count_of-append x (operated op (without now m)) m in
-    let c = same_operated op (without now m) now all x in
-    let d = none x in
-    omega arith
+  abbrev widens : ℕ → Row → Row
+  widens v x = x
 
-operation_is : (script : Tag → Option Statement) (ps : List Put) (v : ℕ) (by : Put) (statement : Statement) (op : Operation) → put_under ps (commit_text (suc v)) ≡ Some by → script by.tag ≡ Some statement → operation_of statement ≡ Some op
-    → operation_by (statement_of script (put_under ps (commit_text (suc v)))) ≡ Some op
-operation_is script ps v by statement op is_by is_statement is_op =
-    ap (λ (o : Option Put). operation_by (statement_of script o)) is_by ∙ ap operation_by is_statement ∙ is_op
+  module _ (top : ℕ) (small : top < 2 ^ 64) (is : IsCommitted ps top) (none : NoneMisses script journal ps top) where
+    abbrev facts_of : (k : ℕ) → k < top → Landed passes may (commit_at ps) (rows_of ps) k
+    facts_of = facts K script replies tags past os ps s known top small is
 
-pub rows_are_folded : (script : Tag → Option Statement) (moments : List Moment) → VersionsAreSerial Serializable script moments → FirstIsEmpty moments → RowsAreFolded script moments
-rows_are_folded script moments serial empty zero small is = λ x. ap (λ (rows : List Row). count_of x rows) empty
-rows_are_folded script moments serial empty (suc v) small is =
-    let ps = history [] moments in
-    let s = serial v small is in
-    let rest = rows_are_folded script moments serial empty v (omega arith) s.previous in
-    let m = missed (scope_of s.op) (rows_at ps v) (rows_at ps s.read) in
-    let one = none_missed s.op (rows_at ps v) (rows_at ps (suc v)) m (s.serial).fits (s.serial).result in
-    let two = same_operated s.op (rows_at ps v) (folded script ps v) rest in
-    let is_op = operation_is script ps v s.by s.statement s.op s.is_by s.is_statement s.is_op in
-    λ x. one x ∙ two x ∙ ap (λ (o : Option Operation). count_of x (done_by o (folded script ps v))) (sym is_op)
+    op_there : (k : ℕ) (lt : k < top) → operation_at script journal ps (suc k) ≡ Some (facts_of k lt).op
+    op_there k lt = op_is K script replies tags past os ps s known journal is_past top small is k lt
+
+    in_order : (k : ℕ) (lt : k < top) → IsInOrder passes may (commit_at ps) (rows_of ps) k (facts_of k lt)
+    in_order k lt =
+        let r = read_is K script replies tags past os ps s known journal is_past top small is k lt in
+        none k lt r.0 r.1 (facts_of k lt).read r.2 (facts_of k lt).op (op_there k lt)
+
+    -- both folds are one
+    same_fold : (v : ℕ) → v ≤ top → folded script journal ps v ≡ folded_ops passes op_after widens v
+    same_fold zero le = refl
+    same_fold (suc v) le =
+        let lt : v < top = omega arith in
+        let op = (facts_of v lt).op in
+        let there = op_there v lt in
+        ap (λ (o : Option (List Row)). done_by (operation_at script journal ps (suc v)) o) (same_fold v (omega arith))
+        ∙ ap (λ (o : Option (Operation Scope)). done_by o (folded_ops passes op_after widens v)) there
+        ∙ same_done op (folded_ops passes op_after widens v)
+        ∙ ap (λ (o : Option (Operation Scope)). option_and_then (λ xs. operated passes (or_making o) (map (λ x. x) xs)) (folded_ops passes op_after widens v)) (sym there)
+      where
+        same_done : (op : Operation Scope) (rows : Option (List Row)) → option_and_then (operated passes op) rows ≡ option_and_then (λ xs. operated passes op (map (λ x. x) xs)) rows
+        same_done op None = refl
+        same_done op (Some xs) = ap (operated passes op) (sym (map_same xs))
+
+    pub rows_folded : SameIfGiven (Some (rows_at ps top)) (folded script journal ps top)
+    rows_folded =
+        subst (λ (o : Option (List Row)). SameIfGiven (Some (rows_at ps top)) o) (sym (same_fold top (omega arith)))
+        (each_version_is_folded Scope passes may (commit_at ps) (rows_of ps) top facts_of (appended script journal ps) op_after widens (empty_first ps)
+        (is_appended K script replies tags past os ps s known journal is_past top small is) (λ k lt. ap or_making (op_there k lt)) (widen_is K script replies tags past os ps s known journal is_past top small is) in_order top (omega arith))

@@ -22,14 +22,18 @@ use Rattle.table_rules.proofs.Names.{commits_differ, data_is_no_commit}
 use Rattle.line_texts.specs.Texts.{text_of_columns}
 use Rattle.snapshot_replay.specs.Table.{Snapshot}
 use Rattle.call_phases.specs.Phases.{Entries}
-use Rattle.statement_calls.specs.Texts.{read_commit}
 use Rattle.statement_calls.specs.Answered.{names_of}
 use Rattle.actor_core.specs.Entries.{own}
 use Rattle.actor_core.proofs.Owners.{same_tag-refl}
-use Rattle.table_laws.specs.Rows.{Row}
-use Rattle.table_laws.specs.Operations.{Operation, operation_of}
+use Rattle.table_changes.specs.Rows.{Row}
+use Rattle.table_changes.specs.Table.{File}
+use Rattle.table_changes.specs.Operations.{Operation}
+use Rattle.table_laws.specs.Commits.{files_in, schema_in}
+use Rattle.table_laws.specs.Operations.{Scope, operation_of}
 use Rattle.table_laws.proofs.CommitEffects as effects
-use Rattle.table_laws.specs.Levels.{Level}
+use Rattle.table_laws.proofs.CommitEffects.{Says}
+use Rattle.table_laws.proofs.Sound.{makes_none}
+use Rattle.table_laws.proofs.Effects.{loaded_columns}
 use Rattle.table_laws.specs.History.{Put, put_under, body_of, put_if_free, puts_of, if_done, puts_at, history}
 use Rattle.table_laws.specs.Runs.{listed_by, told_by, version_put, versions_put}
 use Rattle.table_laws.proofs.Sessions.{GotIn, StoredIn}
@@ -41,11 +45,11 @@ use Rattle.table_laws.proofs.Names.{same_file}
 use Rattle.table_laws.proofs.Puts.{or_else, body_at, put_under-push, object_at-with}
 use Rattle.table_laws.proofs.Shown.{backwards, InPut, Sure, sure_more, own_got, stored_now, put_more, put_now, missing_now, none_more, one_more, put_of_body, more_after, given_more, kept_put, kept_body, old_or_new, one_under, one_itself, suc_same, some_same, same_if_done, same_after, IsMadeIn, IsPutBy}
 
-module _ (level : Level) (K : Tag → List ℕ → List ℕ → Type 0) (script : Tag → Option Statement) (replies : Tag → Option Reply) (tags : (tag : Tag) (statement : Statement) → script tag ≡ Some statement → IsTag tag) where
+module _ (K : Tag → List ℕ → List ℕ → Type 0) (script : Tag → Option Statement) (replies : Tag → Option Reply) (tags : (tag : Tag) (statement : Statement) → script tag ≡ Some statement → IsTag tag) where
   -- a statement's entries from here on are lawful
   abbrev pub KeepsPart : Tag → Option Statement → Option Reply → Entries → Entries → Type 0
   KeepsPart tag None reply past es = es ≡ []
-  KeepsPart tag (Some statement) reply past es = AllLawful level (K tag) tag statement reply past es
+  KeepsPart tag (Some statement) reply past es = AllLawful (K tag) tag statement reply past es
 
   abbrev pub Keeps : Entries → Entries → Type 0
   Keeps past es = (t : Tag) → KeepsPart t (script t) (replies t) (own t past) (own t es)
@@ -58,11 +62,11 @@ module _ (level : Level) (K : Tag → List ℕ → List ℕ → Type 0) (script 
   pub keeps_rest : (past : Entries) (e : JournalEntry) (es : Entries) → Keeps past (e ∷ es) → Keeps (e ∷ past) es
   keeps_rest past e es h t = keeps_one t (same_tag t e.tag) (script t) (replies t) e (own t past) (own t es) (h t)
 
-  lawful_one : (t : Tag) (s : Option Statement) (r : Option Reply) (e : JournalEntry) (past es : Entries) → KeepsPart t s r past (e ∷ es) → (statement : Statement) × (s ≡ Some statement) × LawfulBy level (K t) t statement past e.call
+  lawful_one : (t : Tag) (s : Option Statement) (r : Option Reply) (e : JournalEntry) (past es : Entries) → KeepsPart t s r past (e ∷ es) → (statement : Statement) × (s ≡ Some statement) × LawfulBy (K t) t statement past e.call
   lawful_one t None r e past es h = cc
   lawful_one t (Some statement) r e past es h = (statement, refl, h.0)
 
-  pub lawful_next : (past : Entries) (e : JournalEntry) (es : Entries) → Keeps past (e ∷ es) → (statement : Statement) × (script e.tag ≡ Some statement) × LawfulBy level (K e.tag) e.tag statement (own e.tag past) e.call
+  pub lawful_next : (past : Entries) (e : JournalEntry) (es : Entries) → Keeps past (e ∷ es) → (statement : Statement) × (script e.tag ≡ Some statement) × LawfulBy (K e.tag) e.tag statement (own e.tag past) e.call
   lawful_next past e es h =
       lawful_one e.tag (script e.tag) (replies e.tag) e (own e.tag past) (own e.tag es)
       (subst (λ (b : Bool). KeepsPart e.tag (script e.tag) (replies e.tag) (own e.tag past) (if b then e ∷ own e.tag es else own e.tag es)) (same_tag-refl e.tag) (h e.tag))
@@ -71,14 +75,14 @@ module _ (level : Level) (K : Tag → List ℕ → List ℕ → Type 0) (script 
   pub record Committed (past : Entries) (ps : List Put) (v : ℕ) (p : Put) : Type 0 where
     pub statement : Statement
     pub is_statement : script p.tag ≡ Some statement
-    pub op : Operation
-    pub is_op : operation_of statement ≡ Some op
+    pub s : Snapshot
+    pub op : Operation Scope
+    pub is_op : operation_of (schema_in s) statement ≡ Some op
     pub start : ℕ
     pub read : ℕ
-    pub s : Snapshot
-    pub view : List ℕ → List Row
-    pub says : read_commit (suc v) p.body ≡ Some (effects.effect_of p.tag start op view s.files)
-    pub knows : Knows level p.tag op start read s view (Sure K p.tag ps) (InPut ps) v
+    pub view : File → List Row
+    pub says : Says (suc v) p.body (effects.effect_of p.tag start op view (files_in s))
+    pub knows : Knows p.tag op start read s view (Sure K p.tag ps) (InPut ps) v
     pub started : first_past told_by (own p.tag past) ≡ Some start
     pub listed : first_past listed_by (own p.tag past) ≡ Some read
     pub tries : ℕ
@@ -132,7 +136,7 @@ module _ (level : Level) (K : Tag → List ℕ → List ℕ → Type 0) (script 
     s = k.s;
     view = k.view;
     says = k.says;
-    knows = knows_more level p.tag k.op k.start k.read k.s k.view (Sure K p.tag ps) (InPut ps) (Sure K p.tag qs) (InPut qs) v (sure_more K p.tag ps qs more) more k.knows;
+    knows = knows_more p.tag k.op k.start k.read k.s k.view (Sure K p.tag ps) (InPut ps) (Sure K p.tag qs) (InPut qs) v (sure_more K p.tag ps qs more) more k.knows;
     started = given_more told_by p.tag e past _ k.started;
     listed = given_more listed_by p.tag e past _ k.listed;
     tries = k.tries;
@@ -170,24 +174,27 @@ module _ (level : Level) (K : Tag → List ℕ → List ℕ → Type 0) (script 
       not_there p h = cc
 
   -- the one put that is new, if it is a commit
-  new_commit : (tag : Tag) (statement : Statement) (past : Entries) (name body : List ℕ) (v : ℕ) → suc v < 2 ^ 64 → MayPut level (K tag) tag statement past name body → name ≡ commit_text (suc v)
-      → (k : IsCommitOf level (K tag) tag statement past name body) × (k.version ≡ v)
+  new_commit : (tag : Tag) (statement : Statement) (past : Entries) (name body : List ℕ) (v : ℕ) → suc v < 2 ^ 64 → MayPut (K tag) tag statement past name body → name ≡ commit_text (suc v)
+      → (k : IsCommitOf (K tag) tag statement past name body) × (k.version ≡ v)
   new_commit tag statement past name body v small (IsFile start is fresh) h = absurd (data_is_no_commit tag start 0 (suc v) (sym is ∙ h))
   new_commit tag statement past name body v small (IsTable spec is_table is text none) h = let e : ◌≡◌ {A = ℕ} 0 (suc v) = commits_differ 0 (suc v) (omega arith) small (sym is ∙ h) in absurd (omega arith)
   new_commit tag statement past name body v small (IsCommit k) h = (k, suc_same k.version v (commits_differ (suc k.version) (suc v) k.small small (sym k.is ∙ h)))
 
-  new_table : (tag : Tag) (statement : Statement) (past : Entries) (name body : List ℕ) → script tag ≡ Some statement → MayPut level (K tag) tag statement past name body → name ≡ commit_text 0
+  new_table : (tag : Tag) (statement : Statement) (past : Entries) (name body : List ℕ) → script tag ≡ Some statement → MayPut (K tag) tag statement past name body → name ≡ commit_text 0
       → (spec : TableSpec) × (script tag ≡ Some (Table spec)) × (body ≡ text_of_columns (names_of spec.columns))
   new_table tag statement past name body by (IsFile start is fresh) h = absurd (data_is_no_commit tag start 0 0 (sym is ∙ h))
   new_table tag statement past name body by (IsTable spec is_table is text none) h = (spec, by ∙ ap (λ (s : Statement). Some s) is_table, text)
   new_table tag statement past name body by (IsCommit k) h = let e : ◌≡◌ {A = ℕ} (suc k.version) 0 = commits_differ (suc k.version) 0 k.small (omega arith) (sym k.is ∙ h) in absurd (omega arith)
 
-  no_operation : (spec : TableSpec) (statement : Statement) (op : Operation) → Table spec ≡ statement → operation_of statement ≡ Some op → ⊥
-  no_operation spec statement op same is = let bad : operation_of (Table spec) ≡ Some op = ap operation_of same ∙ is in cc
+  -- a statement that makes a table commits no later version
+  pub no_later : (past : Entries) (ps : List Put) (v : ℕ) (q : Put) → Committed past ps v q → (spec : TableSpec) → script q.tag ≡ Some (Table spec) → ⊥
+  no_later past ps v q k spec is =
+      let columns = loaded_columns (Sure K q.tag ps) k.read k.s (k.knows).loaded in
+      makes_none k.s columns.0 columns.1 spec k.op (ap (operation_of (schema_in k.s)) (some_same (Table spec) k.statement (sym is ∙ k.is_statement)) ∙ k.is_op)
 
   -- a statement whose commit took effect puts no further one
   module _ (past : Entries) (os : Objects) (ps : List Put) (s : Stands past os ps) (tag : Tag) (statement : Statement) (is_statement : script tag ≡ Some statement) (name body : List ℕ) where
-    not_lost : (v : ℕ) (q : Put) → put_under ps (commit_text (suc v)) ≡ Some q → Committed past ps v q → tag ≡ q.tag → IsCommitOf level (K tag) tag statement (own tag past) name body → ⊥
+    not_lost : (v : ℕ) (q : Put) → put_under ps (commit_text (suc v)) ≡ Some q → Committed past ps v q → tag ≡ q.tag → IsCommitOf (K tag) tag statement (own tag past) name body → ⊥
     not_lost v q old there same k =
         let m = s.made (commit_text (suc v)) q old in
         let made = subst (λ (t : Tag). PutIn (own t past) (commit_text (suc v)) q.body m.answer) (sym same) m.made in
@@ -197,7 +204,7 @@ module _ (level : Level) (K : Tag → List ℕ → List ℕ → Type 0) (script 
         ]
 
     -- what stands under a commit's name that it may put is not its own
-    pub not_own : MayPut level (K tag) tag statement (own tag past) name body → (version : ℕ) → name ≡ commit_text version → (q : Put) → put_under ps name ≡ Some q → q.tag ≡ tag → ⊥
+    pub not_own : MayPut (K tag) tag statement (own tag past) name body → (version : ℕ) → name ≡ commit_text version → (q : Put) → put_under ps name ≡ Some q → q.tag ≡ tag → ⊥
     not_own (IsFile start is fresh) version at q there same = data_is_no_commit tag start 0 version (sym is ∙ at)
     not_own (IsTable spec is_table is text none) version at q there same =
         let m = s.made name q there in
@@ -206,14 +213,14 @@ module _ (level : Level) (K : Tag → List ℕ → List ℕ → Type 0) (script 
         let here : put_under ps (commit_text (suc k.version)) ≡ Some q = ap (λ (n : List ℕ). put_under ps n) (sym k.is) ∙ there in
         not_lost k.version q here (s.commits k.version q k.small here) (sym same) k
 
-    quiet : MayPut level (K tag) tag statement (own tag past) name body → (v : ℕ) (q : Put) → put_under ps (commit_text (suc v)) ≡ Some q → Committed past ps v q → tag ≡ q.tag → version_put (PutNew name body) ≡ None
+    quiet : MayPut (K tag) tag statement (own tag past) name body → (v : ℕ) (q : Put) → put_under ps (commit_text (suc v)) ≡ Some q → Committed past ps v q → tag ≡ q.tag → version_put (PutNew name body) ≡ None
     quiet (IsFile start is fresh) v q old there same = ap (λ (n : List ℕ). version_put (PutNew n body)) is ∙ data_put tag start body
     quiet (IsTable spec is_table is text none) v q old there same =
-        absurd (no_operation spec there.statement there.op (sym is_table ∙ some_same statement there.statement (sym is_statement ∙ ap script same ∙ there.is_statement)) there.is_op)
+        absurd (no_later past ps v q there spec (sym (ap script same) ∙ is_statement ∙ ap (λ (s : Statement). Some s) is_table))
     quiet (IsCommit k) v q old there same = absurd (not_lost v q old there same k)
 
   module _ (past : Entries) (os : Objects) (ps : List Put) (s : Stands past os ps)
-      (tag : Tag) (name body : List ℕ) (answer : Answer) (clock : ℕ) (statement : Statement) (is_statement : script tag ≡ Some statement) (may : MayPut level (K tag) tag statement (own tag past) name body)
+      (tag : Tag) (name body : List ℕ) (answer : Answer) (clock : ℕ) (statement : Statement) (is_statement : script tag ≡ Some statement) (may : MayPut (K tag) tag statement (own tag past) name body)
       (free : object_at os name ≡ None) (not_taken : answer ≡ Taken → ⊥) where
     abbrev the_entry : JournalEntry
     the_entry = record { tag = tag; call = PutNew name body; answer = answer }
@@ -246,7 +253,7 @@ module _ (level : Level) (K : Tag → List ℕ → List ℕ → Type 0) (script 
     free_file start is fresh None e = refl
     free_file start is fresh (Some q) e = let o = s.owned tag start q (tags tag statement is_statement) e in absurd (fresh _ _ _ o.1)
 
-    free_by : MayPut level (K tag) tag statement (own tag past) name body → put_under ps name ≡ None
+    free_by : MayPut (K tag) tag statement (own tag past) name body → put_under ps name ≡ None
     free_by (IsFile start is fresh) = ap (λ (n : List ℕ). put_under ps n) is ∙ free_file start is fresh (put_under ps (data_text tag start 0)) refl
     free_by (IsTable spec is_table is text none) = free_log 0 is
     free_by (IsCommit k) = free_log (suc k.version) k.is
@@ -294,7 +301,7 @@ module _ (level : Level) (K : Tag → List ℕ → List ℕ → Type 0) (script 
           )
     ]
       where
-        mine : MayPut level (K tag) tag statement (own tag past) name body → name ≡ data_text t start 0 → tag ≡ t
+        mine : MayPut (K tag) tag statement (own tag past) name body → name ≡ data_text t start 0 → tag ≡ t
         mine (IsFile i is fresh) h = same_file tag t i start (tags tag statement is_statement) right (sym is ∙ h)
         mine (IsTable spec is_table is text none) h = absurd (data_is_no_commit t start 0 0 (sym h ∙ is))
         mine (IsCommit k) h = absurd (data_is_no_commit t start 0 (suc k.version) (sym h ∙ k.is))
@@ -345,9 +352,9 @@ module _ (level : Level) (K : Tag → List ℕ → List ℕ → Type 0) (script 
           read = k.read;
           s = k.s;
           view = k.view;
-          says = subst (λ (w : ℕ). read_commit (suc w) body ≡ Some (effects.effect_of tag k.start k.op k.view (k.s).files)) two.1 k.says;
-          knows = subst (λ (w : ℕ). Knows level tag k.op k.start k.read k.s k.view (Sure K tag more) (InPut more) w) two.1
-              (knows_more level tag k.op k.start k.read k.s k.view (Known (K tag) (own tag past)) (StoredIn (own tag past)) (Sure K tag more) (InPut more) k.version
+          says = subst (λ (w : ℕ). Says (suc w) body (effects.effect_of tag k.start k.op k.view (files_in k.s))) two.1 k.says;
+          knows = subst (λ (w : ℕ). Knows tag k.op k.start k.read k.s k.view (Sure K tag more) (InPut more) w) two.1
+              (knows_more tag k.op k.start k.read k.s k.view (Known (K tag) (own tag past)) (StoredIn (own tag past)) (Sure K tag more) (InPut more) k.version
               (λ n b h. elim h [ inl before ↦ inl before | inr got ↦ inr (still n b (s.got n b (own_got tag past n b got))) ])
               (λ n b h. let p = s.stored tag n b h in still n b (ap body_of p.is ∙ ap (λ (b : List ℕ). Some b) p.body)) k.knows);
           started = given_more told_by tag the_entry past _ k.started;
@@ -439,7 +446,7 @@ module _ (level : Level) (K : Tag → List ℕ → List ℕ → Type 0) (script 
     not_stored Waited right is = cc
 
     -- a put, by what is under its name
-    module _ (tag : Tag) (name body : List ℕ) (clock : ℕ) (statement : Statement) (is_statement : script tag ≡ Some statement) (may : MayPut level (K tag) tag statement (own tag past) name body) where
+    module _ (tag : Tag) (name body : List ℕ) (clock : ℕ) (statement : Statement) (is_statement : script tag ≡ Some statement) (may : MayPut (K tag) tag statement (own tag past) name body) where
       abbrev entry_of : Answer → JournalEntry
       entry_of a = record { tag = tag; call = PutNew name body; answer = a }
 
@@ -471,7 +478,7 @@ module _ (level : Level) (K : Tag → List ℕ → List ℕ → Type 0) (script 
       at_either a u None is right = at_free a u is right
       at_either a u (Some o) is right = at_there a u o right
 
-    pub call_step : (tag : Tag) (call : Call) (a : Answer) (clock : ℕ) (u : Bool) (statement : Statement) → script tag ≡ Some statement → LawfulBy level (K tag) tag statement (own tag past) call → Answers a (answer_of os clock call)
+    pub call_step : (tag : Tag) (call : Call) (a : Answer) (clock : ℕ) (u : Bool) (statement : Statement) → script tag ≡ Some statement → LawfulBy (K tag) tag statement (own tag past) call → Answers a (answer_of os clock call)
         → Stands (record { tag = tag; call = call; answer = a } ∷ past) (after_answer a u os (effect_of os clock call)) (ps ++ if_done a u (puts_of os tag clock call))
     call_step tag (Get name) a clock u statement is_statement lawful right = idle (record { tag = tag; call = Get name; answer = a }) (after_answer a u os os) (if_done a u []) (same_after a u os) (same_if_done a u) (get_shows name a right) (get_misses name a right) (λ n b h k. cc) (λ v p h k is. refl)
     call_step tag (PutNew name body) a clock u statement is_statement lawful right = at_either tag name body clock statement is_statement lawful a u (object_at os name) refl right

@@ -6,10 +6,11 @@ use Rattle.row_base.specs.declared.row.ScannedFile.{ScannedFile}
 use Rattle.snapshot_replay.specs.Table.{Commit, Snapshot}
 use Rattle.statement_calls.specs.declared.finish.Kept.{Kept}
 use Rattle.statement_calls.specs.Texts.{read_file}
-use Rattle.table_laws.specs.Rows.{Row}
-use Rattle.table_laws.specs.Operations.{Operation}
-use Rattle.table_laws.specs.Levels.{Level}
-use Rattle.table_laws.proofs.Clashes.{FileClash}
+use Rattle.table_changes.specs.Rows.{Row}
+use Rattle.table_changes.specs.Table.{File}
+use Rattle.table_changes.specs.Conflicts.{Clash}
+use Rattle.table_changes.specs.Operations.{Operation}
+use Rattle.table_laws.specs.Operations.{Scope}
 use Rattle.table_laws.proofs.Sessions.{LoadedTo, KnownKept}
 use Rattle.table_laws.proofs.Lawful.{AllGot, AllScanned, Cleared, Knows}
 
@@ -22,9 +23,9 @@ module _ (G H : List ℕ → List ℕ → Type 0) (more : (n b : List ℕ) → G
   kept_more None h = h
   kept_more (Some k) h = loaded_more k.versions k.state h
 
-  pub got_more : (view : List ℕ → List Row) (ps : List (List ℕ)) → AllGot G view ps → AllGot H view ps
+  pub got_more : (view : File → List Row) (fs : List File) → AllGot G view fs → AllGot H view fs
   got_more view [] h = tt
-  got_more view (p ∷ ps) h = ((h.0.0, more p h.0.0 h.0.1, h.0.2), got_more view ps h.1)
+  got_more view (a ∷ fs) h = ((h.0.0, more a.name h.0.0 h.0.1, h.0.2), got_more view fs h.1)
 
   pub scanned_more : (ps : List (List ℕ)) (fs : List ScannedFile) → AllScanned G ps fs → AllScanned H ps fs
   scanned_more [] [] h = tt
@@ -32,7 +33,7 @@ module _ (G H : List ℕ → List ℕ → Type 0) (more : (n b : List ℕ) → G
   scanned_more (p ∷ ps) [] h = absurd h
   scanned_more (p ∷ ps) (f ∷ fs) h = ((h.0.0, more p h.0.0 h.0.1, h.0.2), scanned_more ps fs h.1)
 
-  pub cleared_more : (judge : Commit → Option FileClash) (k : ℕ) → Cleared G judge k → Cleared H judge k
+  pub cleared_more : (judge : Commit → Option Clash) (k : ℕ) → Cleared G judge k → Cleared H judge k
   cleared_more judge k h = (h.0, more _ _ h.1, h.2)
 
 -- one file more
@@ -42,13 +43,15 @@ scanned_push G [] (g ∷ fs) p f h one = absurd h
 scanned_push G (q ∷ ps) [] p f h one = absurd h
 scanned_push G (q ∷ ps) (g ∷ fs) p f h one = (h.0, scanned_push G ps fs p f h.1 one)
 
-pub knows_more : (level : Level) (tag : Tag) (op : Operation) (start read : ℕ) (s : Snapshot) (view : List ℕ → List Row) (G S H T : List ℕ → List ℕ → Type 0) (version : ℕ)
+pub knows_more : (tag : Tag) (op : Operation Scope) (start read : ℕ) (s : Snapshot) (view : File → List Row) (G S H T : List ℕ → List ℕ → Type 0) (version : ℕ)
     → ((n b : List ℕ) → G n b → H n b) → ((n b : List ℕ) → S n b → T n b)
-    → Knows level tag op start read s view G S version → Knows level tag op start read s view H T version
-knows_more level tag op start read s view G S H T version more stored k = record {
+    → Knows tag op start read s view G S version → Knows tag op start read s view H T version
+knows_more tag op start read s view G S H T version more stored k = record {
   below = k.below;
   loaded = loaded_more G H more (suc read) s k.loaded;
   files = got_more G H more view _ k.files;
+  new = k.new;
+  written = k.written;
   stored = (k.stored.0, stored _ _ k.stored.1, k.stored.2);
   previous = (k.previous.0, more _ _ k.previous.1);
   clear = λ n from to. cleared_more G H more _ n (k.clear n from to);

@@ -16,15 +16,17 @@ use Rattle.op_types.specs.declared.reply.Reply.{Reply}
 use Rattle.op_types.specs.declared.reply.Reply.TheVariants.{Created, Committed, Rows, Killed, Refused}
 use Rattle.table_rules.specs.Names.{commit_text, data_text}
 use Rattle.line_texts.specs.Texts.{text_of_columns}
-use Rattle.snapshot_replay.specs.Table.{Add, Commit, Snapshot, paths_of}
+use Rattle.snapshot_replay.specs.Table.{Commit, Snapshot, paths_of}
 use Rattle.call_phases.specs.Phases.{Entries}
 use Rattle.statement_calls.specs.Texts.{read_commit, read_file}
 use Rattle.statement_calls.specs.Answered.{names_of, rows_of_files}
-use Rattle.table_laws.specs.Rows.{Row}
-use Rattle.table_laws.specs.Operations.{Operation, operation_of, scope_of, got_files, removed_files}
-use Rattle.table_laws.proofs.CommitEffects.{may_match, new_rows, effect_of}
-use Rattle.table_laws.specs.Levels.{Level}
-use Rattle.table_laws.proofs.Clashes.{FileClash, first_clash}
+use Rattle.table_changes.specs.Rows.{Row}
+use Rattle.table_changes.specs.Table.{File}
+use Rattle.table_changes.specs.Conflicts.{Clash}
+use Rattle.table_changes.specs.Operations.{Operation, got_files}
+use Rattle.table_laws.specs.Commits.{files_in, meta_in, schema_in}
+use Rattle.table_laws.specs.Operations.{Scope, operation_of}
+use Rattle.table_laws.proofs.CommitEffects.{effect_of, Says, judge_of}
 use Rattle.table_laws.specs.Runs.{or_first, listed_by, told_by, versions_put}
 use Rattle.table_laws.proofs.Sessions.{GotIn, StoredIn, LoadedTo}
 use Rattle.table_laws.specs.Refused.{IsUnknown}
@@ -67,15 +69,12 @@ abbrev pub first_past : (Call → Answer → Option ℕ) → Entries → Option 
 first_past by [] = None
 first_past by (e ∷ past) = or_first (first_past by past) (by e.call e.answer)
 
-abbrev pub judge_of : Level → Operation → (List ℕ → List Row) → List Add → Commit → Option FileClash
-judge_of level op view fs t = first_clash level op (λ stats. may_match (scope_of op) stats) (paths_of (got_files may_match op fs)) (paths_of (removed_files view may_match op fs)) t
-
 -- by what is known under a name: of entries, what was got; of a history, what was put
 module _ (G : List ℕ → List ℕ → Type 0) where
-  -- the rows under each of these paths are those of a body that is known
-  abbrev pub AllGot : (List ℕ → List Row) → List (List ℕ) → Type 0
+  -- the rows of each of these files are those of a body that is known
+  abbrev pub AllGot : (File → List Row) → List File → Type 0
   AllGot view [] = Unit {0}
-  AllGot view (p ∷ ps) = ((body : List ℕ) × G p body × (read_file body ≡ Some (view p))) × AllGot view ps
+  AllGot view (a ∷ fs) = ((body : List ℕ) × G a.name body × (read_file body ≡ Some (view a))) × AllGot view fs
 
   -- the rows of each file are those of a body that is known under its path
   abbrev pub AllScanned : List (List ℕ) → List ScannedFile → Type 0
@@ -85,17 +84,19 @@ module _ (G : List ℕ → List ℕ → Type 0) where
   AllScanned (p ∷ ps) (f ∷ fs) = ((body : List ℕ) × G p body × (read_file body ≡ Some f.rows)) × AllScanned ps fs
 
   -- the commit of version k + 1 is known, and doesn't clash as far as it can be read
-  abbrev pub Cleared : (Commit → Option FileClash) → ℕ → Type 0
+  abbrev pub Cleared : (Commit → Option Clash) → ℕ → Type 0
   Cleared judge k = (text : List ℕ) × G (commit_text (suc k)) text × ((t : Commit) → read_commit (suc k) text ≡ Some t → judge t ≡ None)
 
 -- what a statement knows before it puts its commit at version + 1
-pub record Knows (level : Level) (tag : Tag) (op : Operation) (start read : ℕ) (s : Snapshot) (view : List ℕ → List Row) (G S : List ℕ → List ℕ → Type 0) (version : ℕ) : Type 0 where
+pub record Knows (tag : Tag) (op : Operation Scope) (start read : ℕ) (s : Snapshot) (view : File → List Row) (G S : List ℕ → List ℕ → Type 0) (version : ℕ) : Type 0 where
   pub below : read ≤ version
   pub loaded : LoadedTo G (suc read) s
-  pub files : AllGot G view (paths_of (got_files may_match op s.files))
-  pub stored : (body : List ℕ) × S (data_text tag start 0) body × (read_file body ≡ Some (new_rows op view s.files))
+  pub files : AllGot G view (got_files op (files_in s))
+  pub new : List Row
+  pub written : op.writes view (files_in s) ≡ Some new
+  pub stored : (body : List ℕ) × S (data_text tag start 0) body × (read_file body ≡ Some new)
   pub previous : (text : List ℕ) × G (commit_text version) text
-  pub clear : (k : ℕ) → read ≤ k → k < version → Cleared G (judge_of level op view s.files) k
+  pub clear : (k : ℕ) → read ≤ k → k < version → Cleared G (judge_of (meta_in s) op view (files_in s)) k
 
 -- so many versions above the one that was read, the newest first
 abbrev pub versions_down : ℕ → ℕ → List ℕ
@@ -112,12 +113,12 @@ pub record ClaimsCommit (tag : Tag) (past : Entries) (version read attempts : �
   pub above : 0 < attempts
   pub small : version < 2 ^ 64
   pub listed : first_past listed_by past ≡ Some read
-  pub op : Operation
+  pub op : Operation Scope
   pub start : ℕ
   pub s : Snapshot
-  pub view : List ℕ → List Row
+  pub view : File → List Row
   pub body : List ℕ
-  pub says : read_commit version body ≡ Some (effect_of tag start op view s.files)
+  pub says : Says version body (effect_of tag start op view (files_in s))
   pub there : StoredIn past (commit_text version) body ⊎ GotIn past (commit_text version) body
 
 -- a statement loaded a version, and got all its files
@@ -151,20 +152,20 @@ Claim K tag statement None past = Unit {0}
 Claim K tag statement (Some reply) past = ClaimOf K tag statement past reply
 
 -- a put of a statement's commit
-pub record IsCommitOf (level : Level) (K : List ℕ → List ℕ → Type 0) (tag : Tag) (statement : Statement) (past : Entries) (name body : List ℕ) : Type 0 where
+pub record IsCommitOf (K : List ℕ → List ℕ → Type 0) (tag : Tag) (statement : Statement) (past : Entries) (name body : List ℕ) : Type 0 where
   pub version : ℕ
   pub is : name ≡ commit_text (suc version)
   pub small : suc version < 2 ^ 64
-  pub op : Operation
-  pub is_op : operation_of statement ≡ Some op
+  pub s : Snapshot
+  pub op : Operation Scope
+  pub is_op : operation_of (schema_in s) statement ≡ Some op
   pub start : ℕ
   pub read : ℕ
-  pub s : Snapshot
-  pub view : List ℕ → List Row
-  pub says : read_commit (suc version) body ≡ Some (effect_of tag start op view s.files)
+  pub view : File → List Row
+  pub says : Says (suc version) body (effect_of tag start op view (files_in s))
   pub started : first_past told_by past ≡ Some start
   pub listed : first_past listed_by past ≡ Some read
-  pub knows : Knows level tag op start read s view (Known K past) (StoredIn past) version
+  pub knows : Knows tag op start read s view (Known K past) (StoredIn past) version
   pub lost : AllLost past
   pub tries : ℕ
   pub sum : read + tries ≡ version
@@ -172,21 +173,21 @@ pub record IsCommitOf (level : Level) (K : List ℕ → List ℕ → Type 0) (ta
   pub won : AllWon past read version
 
 -- a statement's data file, the commit that makes a table, or another commit
-pub data MayPut (level : Level) (K : List ℕ → List ℕ → Type 0) (tag : Tag) (statement : Statement) (past : Entries) (name body : List ℕ) : Type 0 where
-  IsFile : (start : ℕ) → name ≡ data_text tag start 0 → NoPut past → MayPut level K tag statement past name body
-  IsTable : (spec : TableSpec) → statement ≡ Table spec → name ≡ commit_text 0 → body ≡ text_of_columns (names_of spec.columns) → NoPut past → MayPut level K tag statement past name body
-  IsCommit : IsCommitOf level K tag statement past name body → MayPut level K tag statement past name body
+pub data MayPut (K : List ℕ → List ℕ → Type 0) (tag : Tag) (statement : Statement) (past : Entries) (name body : List ℕ) : Type 0 where
+  IsFile : (start : ℕ) → name ≡ data_text tag start 0 → NoPut past → MayPut K tag statement past name body
+  IsTable : (spec : TableSpec) → statement ≡ Table spec → name ≡ commit_text 0 → body ≡ text_of_columns (names_of spec.columns) → NoPut past → MayPut K tag statement past name body
+  IsCommit : IsCommitOf K tag statement past name body → MayPut K tag statement past name body
 
-abbrev pub LawfulBy : Level → (List ℕ → List ℕ → Type 0) → Tag → Statement → Entries → Call → Type 0
-LawfulBy level K tag statement past (PutNew name body) = MayPut level K tag statement past name body
-LawfulBy level K tag statement past (Get name) = Unit {0}
-LawfulBy level K tag statement past (Replace name body) = ⊥
-LawfulBy level K tag statement past (ListNames prefix) = Unit {0}
-LawfulBy level K tag statement past (Delete name) = ⊥
-LawfulBy level K tag statement past Now = Unit {0}
-LawfulBy level K tag statement past (Wait time) = Unit {0}
+abbrev pub LawfulBy : (List ℕ → List ℕ → Type 0) → Tag → Statement → Entries → Call → Type 0
+LawfulBy K tag statement past (PutNew name body) = MayPut K tag statement past name body
+LawfulBy K tag statement past (Get name) = Unit {0}
+LawfulBy K tag statement past (Replace name body) = ⊥
+LawfulBy K tag statement past (ListNames prefix) = Unit {0}
+LawfulBy K tag statement past (Delete name) = ⊥
+LawfulBy K tag statement past Now = Unit {0}
+LawfulBy K tag statement past (Wait time) = Unit {0}
 
 -- each of the entries to come is lawful after those before it, and at the end the reply's claim holds
-abbrev pub AllLawful : Level → (List ℕ → List ℕ → Type 0) → Tag → Statement → Option Reply → Entries → Entries → Type 0
-AllLawful level K tag statement reply past [] = Claim K tag statement reply past
-AllLawful level K tag statement reply past (e ∷ es) = LawfulBy level K tag statement past e.call × AllLawful level K tag statement reply (e ∷ past) es
+abbrev pub AllLawful : (List ℕ → List ℕ → Type 0) → Tag → Statement → Option Reply → Entries → Entries → Type 0
+AllLawful K tag statement reply past [] = Claim K tag statement reply past
+AllLawful K tag statement reply past (e ∷ es) = LawfulBy K tag statement past e.call × AllLawful K tag statement reply (e ∷ past) es

@@ -1,9 +1,6 @@
 pub mod Sessions
-pub mod Clashes
 pub mod CommitEffects
-pub mod Files
-pub mod Live
-pub mod Winners
+pub mod Sound
 pub mod Lawful
 pub mod Known
 pub mod Loads

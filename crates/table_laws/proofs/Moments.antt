@@ -16,7 +16,6 @@ use Rattle.table_rules.specs.Told.{IsTag}
 use Rattle.call_phases.specs.Phases.{Entries}
 use Rattle.statement_calls.specs.declared.finish.Finish.{Finish}
 use Rattle.actor_core.specs.Entries.{own}
-use Rattle.table_laws.specs.Levels.{Level, Serializable}
 use Rattle.table_laws.specs.History.{Put, put_under, puts_of, puts_at, put_if_free, if_done, history}
 use Rattle.table_laws.specs.Runs.{replies_of, IsRun}
 use Rattle.table_laws.proofs.Sessions.{SessionKnows}
@@ -28,30 +27,30 @@ use Rattle.table_laws.proofs.Shown.{put_of_body}
 use Rattle.table_laws.proofs.Journals.{Stands, Keeps, nothing_stands, lawful_next, keeps_rest, call_step, not_own}
 use Rattle.table_laws.proofs.Ends.{keeps_answered}
 
-module _ (level : Level) (K : Tag → List ℕ → List ℕ → Type 0) (script : Tag → Option Statement) (replies : Tag → Option Reply) (tags : (tag : Tag) (statement : Statement) → script tag ≡ Some statement → IsTag tag) where
+module _ (K : Tag → List ℕ → List ℕ → Type 0) (script : Tag → Option Statement) (replies : Tag → Option Reply) (tags : (tag : Tag) (statement : Statement) → script tag ≡ Some statement → IsTag tag) where
   -- what stands after some moments, with the rest still to come
   pub record StandsAt (first : Objects) (puts : List Put) (before rest : List Moment) : Type 0 where
     pub past : Entries
     pub os : Objects
     pub clock : ℕ
-    pub stands : Stands level K script replies tags past os (puts ++ history first before)
+    pub stands : Stands K script replies tags past os (puts ++ history first before)
     pub legal : IsLegal os clock rest
-    pub keeps : Keeps level K script replies tags past (entries_of rest)
+    pub keeps : Keeps K script replies tags past (entries_of rest)
     pub whole : history first (before ++ rest) ≡ history first before ++ history os rest
 
-  stands_at : (before rest : List Moment) (past : Entries) (os : Objects) (ps : List Put) (clock : ℕ) → Stands level K script replies tags past os ps → IsLegal os clock (before ++ rest)
-      → Keeps level K script replies tags past (entries_of (before ++ rest)) → StandsAt os ps before rest
+  stands_at : (before rest : List Moment) (past : Entries) (os : Objects) (ps : List Put) (clock : ℕ) → Stands K script replies tags past os ps → IsLegal os clock (before ++ rest)
+      → Keeps K script replies tags past (entries_of (before ++ rest)) → StandsAt os ps before rest
   stands_at [] rest past os ps clock s legal keeps =
-      record { past = past; os = os; clock = clock; stands = subst (Stands level K script replies tags past os) (sym (append-nil ps)) s; legal = legal; keeps = keeps; whole = refl }
+      record { past = past; os = os; clock = clock; stands = subst (Stands K script replies tags past os) (sym (append-nil ps)) s; legal = legal; keeps = keeps; whole = refl }
   stands_at (m ∷ before) rest past os ps clock s legal keeps =
-      let next = lawful_next level K script replies tags past m.entry (entries_of (before ++ rest)) keeps in
-      let here = call_step level K script replies tags past os ps s m.entry.tag m.entry.call m.entry.answer m.clock m.took_effect next.0 next.1 next.2 legal.2 in
-      let r = stands_at before rest (m.entry ∷ past) (after_moment os m) (ps ++ puts_at os m) m.clock here legal.3 (keeps_rest level K script replies tags past m.entry (entries_of (before ++ rest)) keeps) in
+      let next = lawful_next K script replies tags past m.entry (entries_of (before ++ rest)) keeps in
+      let here = call_step K script replies tags past os ps s m.entry.tag m.entry.call m.entry.answer m.clock m.took_effect next.0 next.1 next.2 legal.2 in
+      let r = stands_at before rest (m.entry ∷ past) (after_moment os m) (ps ++ puts_at os m) m.clock here legal.3 (keeps_rest K script replies tags past m.entry (entries_of (before ++ rest)) keeps) in
       record {
         past = r.past;
         os = r.os;
         clock = r.clock;
-        stands = subst (Stands level K script replies tags r.past r.os) (append_assoc ps (puts_at os m) (history (after_moment os m) before)) r.stands;
+        stands = subst (Stands K script replies tags r.past r.os) (append_assoc ps (puts_at os m) (history (after_moment os m) before)) r.stands;
         legal = r.legal;
         keeps = r.keeps;
         whole = ap (λ (l : List Put). puts_at os m ++ l) r.whole ∙ sym (append_assoc (puts_at os m) (history (after_moment os m) before) (history r.os rest));
@@ -112,17 +111,17 @@ module _ (level : Level) (K : Tag → List ℕ → List ℕ → Type 0) (script 
         by : (o : Option Object) → object_at r.os (commit_text v) ≡ o → Answers m.entry.answer (put_new_answer o) → Decided
         by None at answers = at_free m.entry.answer refl answers at ((r.stands).logs v at)
         by (Some o) at answers =
-            let next = lawful_next level K script replies tags r.past m.entry (entries_of rest) r.keeps in
-            let may : MayPut level (K m.entry.tag) m.entry.tag next.0 (own m.entry.tag r.past) (commit_text v) body = subst (LawfulBy level (K m.entry.tag) m.entry.tag next.0 (own m.entry.tag r.past)) is next.2 in
+            let next = lawful_next K script replies tags r.past m.entry (entries_of rest) r.keeps in
+            let may : MayPut (K m.entry.tag) m.entry.tag next.0 (own m.entry.tag r.past) (commit_text v) body = subst (LawfulBy (K m.entry.tag) m.entry.tag next.0 (own m.entry.tag r.past)) is next.2 in
             let winner = put_of_body (put_under (history [] before) (commit_text v)) o.body ((r.stands).agree (commit_text v) o.body (ap body_at at)) in
-            Loses winner.0 winner.1 (λ same. not_own level K script replies tags r.past r.os (history [] before) r.stands m.entry.tag next.0 next.1 (commit_text v) body may v refl winner.0 winner.1 same)
+            Loses winner.0 winner.1 (λ same. not_own K script replies tags r.past r.os (history [] before) r.stands m.entry.tag next.0 next.1 (commit_text v) body may v refl winner.0 winner.1 same)
             (taken_or_fault m.entry.answer answers)
 
 pub puts_at_moments : (limit : ℕ) (script : Tag → Option Statement) (outcomes : Tag → Option Finish) (moments : List Moment) → IsLegal [] 0 moments → IsRun limit script outcomes (entries_of moments) → CommitPutsAreDecided moments
 puts_at_moments limit script outcomes moments legal run before rest m v body parts small is =
     let K = SessionKnows (entries_of moments) in
-    let keeps = keeps_answered Serializable limit script outcomes moments legal run in
-    let here = stands_at Serializable K script (replies_of outcomes) run.tags before (m ∷ rest) [] [] [] 0 (nothing_stands Serializable K script (replies_of outcomes) run.tags) (subst (IsLegal [] 0) parts legal)
-    (subst (λ (ms : List Moment). Keeps Serializable K script (replies_of outcomes) run.tags [] (entries_of ms)) parts keeps) in
-    let found = decided Serializable K script (replies_of outcomes) run.tags before rest m v body is here in
+    let keeps = keeps_answered limit script outcomes moments legal run in
+    let here = stands_at K script (replies_of outcomes) run.tags before (m ∷ rest) [] [] [] 0 (nothing_stands K script (replies_of outcomes) run.tags) (subst (IsLegal [] 0) parts legal)
+    (subst (λ (ms : List Moment). Keeps K script (replies_of outcomes) run.tags [] (entries_of ms)) parts keeps) in
+    let found = decided K script (replies_of outcomes) run.tags before rest m v body is here in
     subst (λ (ms : List Moment). CommitPut (history [] before) (history [] ms) v body m) (sym parts) found

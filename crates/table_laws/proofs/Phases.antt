@@ -36,7 +36,6 @@ use Rattle.statement_calls.specs.declared.finish.Kept.{Kept}
 use Rattle.statement_calls.specs.declared.finish.Finish.{Finish}
 use Rattle.statement_calls.specs.Judging.{CommitPlan, Bodies, Judges, verdict_of}
 use Rattle.statement_calls.specs.Outcome.{IsOpen, Ends, Replies, refusal_of_attempt}
-use Rattle.table_laws.specs.Levels.{Level}
 use Rattle.table_laws.specs.Runs.{reply_in, or_first, listed_by, told_by}
 use Rattle.table_laws.specs.Refused.{IsUnknown}
 use Rattle.table_laws.proofs.Lawful.{Known, NoPut, IsLost, AllLost, AllInDoubt, ClaimsNothing, first_past, ClaimOf, Claim, MayPut, LawfulBy, AllLawful}
@@ -135,12 +134,12 @@ fresh_get start version past e name is f = record {
 }
 
 -- a statement that has this outcome, or keeps this if it ends here
-module _ (level : Level) (K : List ℕ → List ℕ → Type 0) (tag : Tag) (statement : Statement) (out : Option Finish) (kept : Option Kept) where
+module _ (K : List ℕ → List ℕ → Type 0) (tag : Tag) (statement : Statement) (out : Option Finish) (kept : Option Kept) where
   abbrev Lawful : Entries → Entries → Type 0
-  Lawful past es = AllLawful level K tag statement (reply_in out) past es
+  Lawful past es = AllLawful K tag statement (reply_in out) past es
 
-  lawful_get : (past : Entries) (call : Call) (name : List ℕ) → call ≡ Get name → LawfulBy level K tag statement past call
-  lawful_get past call name is = subst (LawfulBy level K tag statement past) (sym is) tt
+  lawful_get : (past : Entries) (call : Call) (name : List ℕ) → call ≡ Get name → LawfulBy K tag statement past call
+  lawful_get past call name is = subst (LawfulBy K tag statement past) (sym is) tt
 
   -- the reply is this one, and nothing follows
   pub replied : (r : Reply) (past es : Entries) → ClaimOf K tag statement past r → Replies out kept r es → Lawful past es
@@ -163,7 +162,7 @@ module _ (level : Level) (K : List ℕ → List ℕ → Type 0) (tag : Tag) (sta
       → ((t : ℕ) (e : JournalEntry) (rest : Entries) → e.call ≡ Now → e.answer ≡ Time t → next t rest → Lawful (e ∷ past) rest) → Lawful past es
   at_now r next past [] lost h k = left_lost past lost h
   at_now r next past (e ∷ es) lost h k = (
-    subst (LawfulBy level K tag statement past) (sym h.0) tt,
+    subst (LawfulBy K tag statement past) (sym h.0) tt,
     on_time e.answer h.1 (λ is f. ended_lost r (e ∷ past) es (lost_other e past (no_commit_put e Now h.0 now_no_put) lost) f) (λ t is n. k t e es h.0 is n),
   )
 
@@ -171,7 +170,7 @@ module _ (level : Level) (K : List ℕ → List ℕ → Type 0) (tag : Tag) (sta
       → ((l : List Listed) (e : JournalEntry) (rest : Entries) → e.call ≡ ListNames prefix → e.answer ≡ Names l → next l rest → Lawful (e ∷ past) rest) → Lawful past es
   at_list r prefix next past [] lost h k = left_lost past lost h
   at_list r prefix next past (e ∷ es) lost h k = (
-    subst (LawfulBy level K tag statement past) (sym h.0) tt,
+    subst (LawfulBy K tag statement past) (sym h.0) tt,
     on_names e.answer h.1 (λ is f. ended_lost r (e ∷ past) es (lost_other e past (no_commit_put e (ListNames prefix) h.0 (list_no_put prefix)) lost) f) (λ l is n. k l e es h.0 is n),
   )
 
@@ -203,13 +202,13 @@ module _ (level : Level) (K : List ℕ → List ℕ → Type 0) (tag : Tag) (sta
       (λ f got none. found_missing e f past name body (refusal.Fault call) put got none lost)
       h k
 
-  pub at_put_new : (name body : List ℕ) (F S T : Entries → Type 0) (past es : Entries) → AllLost past → MayPut level K tag statement past name body → AtPutNew (IsOpen out kept) name body F S T es
+  pub at_put_new : (name body : List ℕ) (F S T : Entries → Type 0) (past es : Entries) → AllLost past → MayPut K tag statement past name body → AtPutNew (IsOpen out kept) name body F S T es
       → ((e : JournalEntry) (rest : Entries) → e.call ≡ PutNew name body → e.answer ≡ Fault → F rest → Lawful (e ∷ past) rest)
       → ((e : JournalEntry) (rest : Entries) → e.call ≡ PutNew name body → e.answer ≡ Stored → S rest → Lawful (e ∷ past) rest)
       → ((e : JournalEntry) (rest : Entries) → e.call ≡ PutNew name body → e.answer ≡ Taken → T rest → Lawful (e ∷ past) rest) → Lawful past es
   at_put_new name body F S T past [] lost may h f s t = left_lost past lost h
   at_put_new name body F S T past (e ∷ es) lost may h f s t =
-      (subst (LawfulBy level K tag statement past) (sym h.0) may, on_put e.answer h.1 (λ is on. f e es h.0 is on) (λ is on. s e es h.0 is on) (λ is on. t e es h.0 is on))
+      (subst (LawfulBy K tag statement past) (sym h.0) may, on_put e.answer h.1 (λ is on. f e es h.0 is on) (λ is on. s e es h.0 is on) (λ is on. t e es h.0 is on))
 
   -- gets by a reader, by what holds of what was read so far
   module _ {R F : Type 0} (wants : R → Option (List ℕ)) (after : R → List ℕ → Result R F) (refused_by : GetFault F → Refusal) (next : R → Entries → Type 0) (P : R → Entries → Type 0)
@@ -249,7 +248,7 @@ module _ (level : Level) (K : List ℕ → List ℕ → Type 0) (tag : Tag) (sta
   module _ (plan : CommitPlan) (terms : Terms) (landed : Landed → Reply) (P : ℕ → Entries → Type 0)
       (all_lost : (lost : ℕ) (past : Entries) → P lost past → AllLost past)
       (clocked : (lost : ℕ) (past : Entries) (e : JournalEntry) → e.call ≡ Now → P lost past → P lost (e ∷ past))
-      (puts : (lost : ℕ) (past : Entries) → terms.first + lost < 2 ^ 64 → P lost past → MayPut level K tag statement past (commit_text (terms.first + lost)) plan.text)
+      (puts : (lost : ℕ) (past : Entries) → terms.first + lost < 2 ^ 64 → P lost past → MayPut K tag statement past (commit_text (terms.first + lost)) plan.text)
       (loses : (lost : ℕ) (past : Entries) (e f : JournalEntry) (body winner : List ℕ) → e.call ≡ PutNew (commit_text (terms.first + lost)) plan.text → f.call ≡ Get (commit_text (terms.first + lost)) → f.answer ≡ Body body
       → (e.answer ≡ Taken) ⊎ (body ≡ plan.text → ⊥) → verdict_of plan body ≡ verdict.Clear winner → terms.first + lost < 2 ^ 64 → P lost past → P (suc lost) (f ∷ e ∷ past))
       (wins : (lost : ℕ) (past : Entries) (e : JournalEntry) (l : Landed) → e.call ≡ PutNew (commit_text (terms.first + lost)) plan.text → e.answer ≡ Stored → l.version ≡ terms.first + lost → l.attempts ≡ suc lost

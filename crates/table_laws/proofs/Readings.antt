@@ -1,21 +1,24 @@
 -- Commits and files of versions, by what was put and read of them.
-use Rattle.std.proofs.Common.{◌≡◌, ℕ, zero, suc, Bool, true, false, List, [], ◌∷◌, ◌++◌, length, refl, sym, ◌∙◌, ap, subst, arith}
+use Rattle.std.proofs.Common.{◌≡◌, ℕ, zero, suc, Bool, true, false, List, [], ◌∷◌, ◌++◌, map, length, refl, sym, ◌∙◌, ap, subst, arith}
 use Rattle.std.specs.Prelude.{Option, Some, None, IsSome, if◌then◌else◌, option_map, option_and_then}
 use Rattle.std.specs.Str.{bytes_eq}
 use Rattle.std.specs.Ordering.{is_lt, nat_cmp}
 use Rattle.std.specs.Cmp.Lexicographic.{slice_cmp}
 use Rattle.std.proofs.lemmas.Slice.Eq.{bytes_eq-Decides}
 use Rattle.row_base.specs.declared.row.ScannedFile.{ScannedFile}
+use Rattle.row_base.specs.Schema.{TableSchema}
 use Rattle.table_rules.specs.Names.{commit_text}
 use Rattle.line_texts.specs.Texts.{columns_of_text}
-use Rattle.snapshot_replay.specs.Table.{Add, Action, Removes, Adds, Commit, Snapshot, without_path, placed, reconciled, table_commit, paths_of}
+use Rattle.snapshot_replay.specs.Table.{Add, Snapshot, table_commit}
+use Rattle.snapshot_replay.specs.Table.{Commit as LogCommit, paths_of as said_paths}
 use Rattle.statement_calls.specs.Texts.{read_commit}
 use Rattle.statement_calls.specs.Answered.{rows_of_files}
-use Rattle.table_laws.specs.Rows.{Row}
-use Rattle.table_laws.specs.Files.{rows_under, lines_of}
+use Rattle.table_changes.specs.Rows.{Row}
+use Rattle.table_changes.specs.Table.{File, FileLine, Removes, Adds, without_path, placed, reconciled, times, rows_in, lines_of}
+use Rattle.table_laws.specs.Commits.{file_of}
 use Rattle.table_laws.specs.History.{Put, put_under, body_of, or_nothing, commit_at, rows_of}
 use Rattle.table_laws.specs.Laws.{FileReads, AllFilesRead}
-use Rattle.table_laws.proofs.Files.{times, is_one, times-placed, times-without_other, times-without_same}
+use Rattle.table_changes.proofs.Files.{is_one, times-placed, times-without_other, times-without_same}
 use Rattle.table_laws.proofs.Lawful.{AllScanned}
 use Rattle.table_laws.proofs.Sessions.{LoadedTo}
 use Rattle.table_laws.proofs.Shown.{InPut}
@@ -34,17 +37,17 @@ is_some None p h = cc
 is_some (Some q) p h = refl
 
 -- a path that is not there and not added is not there later
-pub none_more : (p : List ℕ) (ps : List (List ℕ)) (a : Add) (fs : List Add) → times p fs ≡ 0 → bytes_eq a.path p ≡ false → times p (reconciled fs (lines_of ps (a ∷ []))) ≡ 0
-none_more p [] a fs none apart =
+pub none_more : (p : List ℕ) (stamp : ℕ) (changes : Bool) (gone : List File) (a : File) (fs : List File) → times p fs ≡ 0 → bytes_eq a.path p ≡ false → times p (reconciled fs (lines_of stamp changes gone (a ∷ []))) ≡ 0
+none_more p stamp changes [] a fs none apart =
     let s = times-placed p a (without_path fs a.path) in
     let t : times p (without_path fs a.path) ≡ times p fs = times-without_other p a.path fs apart in
     let u : is_one p a ≡ 0 = ap (λ (b : Bool). if b then 1 else 0) apart in
     omega arith
-none_more p (q ∷ ps) a fs none apart = none_more p ps a (without_path fs q) (by (bytes_eq q p) refl) apart
+none_more p stamp changes (g ∷ gone) a fs none apart = none_more p stamp changes gone a (without_path fs g.path) (by (bytes_eq g.path p) refl) apart
   where
-    by : (b : Bool) → bytes_eq q p ≡ b → times p (without_path fs q) ≡ 0
-    by true e = subst (λ (n : List ℕ). times p (without_path fs n) ≡ 0) (sym ((bytes_eq-Decides q p).0 e)) (times-without_same p fs)
-    by false e = times-without_other p q fs e ∙ none
+    by : (b : Bool) → bytes_eq g.path p ≡ b → times p (without_path fs g.path) ≡ 0
+    by true e = subst (λ (n : List ℕ). times p (without_path fs n) ≡ 0) (sym ((bytes_eq-Decides g.path p).0 e)) (times-without_same p fs)
+    by false e = times-without_other p g.path fs e ∙ none
 
 -- commit 0 adds nothing, whatever its text
 pub empty_first : (ps : List Put) → (commit_at ps 0).lines ≡ []
@@ -58,28 +61,30 @@ empty_first ps = by (body_of (put_under ps (commit_text 0)))
     by None = refl
     by (Some text) = read (columns_of_text text)
 
-pub same_commit : (a b : Commit) → Some a ≡ Some b → a ≡ b
+pub same_commit : (a b : LogCommit) → Some a ≡ Some b → a ≡ b
 same_commit a b h = cc
 
 pub same_path : (a b : List ℕ) → Some a ≡ Some b → a ≡ b
 same_path a b h = cc
 
 -- the first path that is added
-abbrev pub first_added : List Action → Option (List ℕ)
+abbrev pub first_added : List FileLine → Option (List ℕ)
 first_added [] = None
-first_added (Removes p ∷ ls) = first_added ls
-first_added (Adds a ∷ ls) = Some a.path
+first_added (Removes t changes ∷ ls) = first_added ls
+first_added (Adds a changes ∷ ls) = Some a.path
 
-pub added_is : (ps : List (List ℕ)) (a : Add) → first_added (lines_of ps (a ∷ [])) ≡ Some a.path
-added_is [] a = refl
-added_is (p ∷ ps) a = added_is ps a
+pub added_is : (stamp : ℕ) (changes : Bool) (gone : List File) (a : File) → first_added (lines_of stamp changes gone (a ∷ [])) ≡ Some a.path
+added_is stamp changes [] a = refl
+added_is stamp changes (g ∷ gone) a = added_is stamp changes gone a
 
 -- the files that were got hold the rows under their paths
-pub scanned_rows : (ps : List Put) (paths : List (List ℕ)) (fs : List ScannedFile) → AllScanned (InPut ps) paths fs → rows_of_files fs ≡ rows_under (rows_of ps) paths
-scanned_rows ps [] [] h = refl
-scanned_rows ps [] (f ∷ fs) h = absurd h
-scanned_rows ps (p ∷ paths) [] h = absurd h
-scanned_rows ps (p ∷ paths) (f ∷ fs) h = ap (λ (l : List Row). l ++ rows_of_files fs) (file_is ps p h.0.0 f.rows h.0.1 h.0.2) ∙ ap (λ (l : List Row). rows_of ps p ++ l) (scanned_rows ps paths fs h.1)
+pub scanned_rows : (ps : List Put) (schema : Option TableSchema) (adds : List Add) (fs : List ScannedFile) → AllScanned (InPut ps) (said_paths adds) fs → rows_of_files fs ≡ rows_in (rows_of ps schema) (map file_of adds)
+scanned_rows ps schema [] [] h = refl
+scanned_rows ps schema [] (f ∷ fs) h = absurd h
+scanned_rows ps schema (a ∷ adds) [] h = absurd h
+scanned_rows ps schema (a ∷ adds) (f ∷ fs) h =
+    ap (λ (l : List Row). l ++ rows_of_files fs) (file_is ps schema (file_of a) h.0.0 f.rows h.0.1 h.0.2)
+    ∙ ap (λ (l : List Row). rows_of ps schema (file_of a) ++ l) (scanned_rows ps schema adds fs h.1)
 
 pub scanned_long : (G : List ℕ → List ℕ → Type 0) (paths : List (List ℕ)) (fs : List ScannedFile) → AllScanned G paths fs → length fs ≡ length paths
 scanned_long G [] [] h = refl
@@ -87,16 +92,20 @@ scanned_long G [] (f ∷ fs) h = absurd h
 scanned_long G (p ∷ paths) [] h = absurd h
 scanned_long G (p ∷ paths) (f ∷ fs) h = ap (λ (n : ℕ). suc n) (scanned_long G paths fs h.1)
 
-pub length-paths_of : (fs : List Add) → length (paths_of fs) ≡ length fs
-length-paths_of [] = refl
-length-paths_of (a ∷ fs) = ap (λ (n : ℕ). suc n) (length-paths_of fs)
+pub length-paths : (adds : List Add) → length (said_paths adds) ≡ length (map file_of adds)
+length-paths [] = refl
+length-paths (a ∷ adds) = ap (λ (n : ℕ). suc n) (length-paths adds)
+
+pub length-files : (adds : List Add) → length adds ≡ length (map file_of adds)
+length-files [] = refl
+length-files (a ∷ adds) = ap (λ (n : ℕ). suc n) (length-files adds)
 
 -- the commit of version 0 was read by whoever loaded a version
-pub first_loaded : (G : List ℕ → List ℕ → Type 0) (n : ℕ) (s : Snapshot) → LoadedTo G (suc n) s → (text : List ℕ) × G (commit_text 0) text × (t : Commit) × (read_commit 0 text ≡ Some t)
+pub first_loaded : (G : List ℕ → List ℕ → Type 0) (n : ℕ) (s : Snapshot) → LoadedTo G (suc n) s → (text : List ℕ) × G (commit_text 0) text × (t : LogCommit) × (read_commit 0 text ≡ Some t)
 first_loaded G zero s h = (h.1, h.4, h.2, h.5)
 first_loaded G (suc n) s h = first_loaded G n h.0 h.3
 
-without_read : (ps : List Put) (path : List ℕ) (fs : List Add) → AllFilesRead ps fs → AllFilesRead ps (without_path fs path)
+without_read : (ps : List Put) (path : List ℕ) (fs : List File) → AllFilesRead ps fs → AllFilesRead ps (without_path fs path)
 without_read ps path [] h = tt
 without_read ps path (a ∷ fs) h = by (bytes_eq a.path path) (without_read ps path fs h.1)
   where
@@ -104,7 +113,7 @@ without_read ps path (a ∷ fs) h = by (bytes_eq a.path path) (without_read ps p
     by true rest = rest
     by false rest = (h.0, rest)
 
-placed_read : (ps : List Put) (a : Add) (fs : List Add) → FileReads ps a.path → AllFilesRead ps fs → AllFilesRead ps (placed a fs)
+placed_read : (ps : List Put) (a : File) (fs : List File) → FileReads ps a.name → AllFilesRead ps fs → AllFilesRead ps (placed a fs)
 placed_read ps a [] one h = (one, tt)
 placed_read ps a (b ∷ fs) one h = by (is_lt (slice_cmp nat_cmp b.path a.path)) (placed_read ps a fs one h.1)
   where
@@ -113,6 +122,6 @@ placed_read ps a (b ∷ fs) one h = by (is_lt (slice_cmp nat_cmp b.path a.path))
     by false rest = (one, h)
 
 -- files that read, after a commit that adds one that reads
-pub lines_read : (ps : List Put) (removed : List (List ℕ)) (a : Add) (fs : List Add) → AllFilesRead ps fs → FileReads ps a.path → AllFilesRead ps (reconciled fs (lines_of removed (a ∷ [])))
-lines_read ps [] a fs h one = placed_read ps a (without_path fs a.path) one (without_read ps a.path fs h)
-lines_read ps (r ∷ removed) a fs h one = lines_read ps removed a (without_path fs r) (without_read ps r fs h) one
+pub lines_read : (ps : List Put) (stamp : ℕ) (changes : Bool) (gone : List File) (a : File) (fs : List File) → AllFilesRead ps fs → FileReads ps a.name → AllFilesRead ps (reconciled fs (lines_of stamp changes gone (a ∷ [])))
+lines_read ps stamp changes [] a fs h one = placed_read ps a (without_path fs a.path) one (without_read ps a.path fs h)
+lines_read ps stamp changes (g ∷ gone) a fs h one = lines_read ps stamp changes gone a (without_path fs g.path) (without_read ps g.path fs h) one

@@ -14,7 +14,6 @@ use Rattle.table_rules.specs.Told.{IsTag}
 use Rattle.call_phases.specs.Phases.{Entries}
 use Rattle.edge_api.specs.Journal.{same_tag}
 use Rattle.actor_core.specs.Entries.{own}
-use Rattle.table_laws.specs.Levels.{Level, Serializable}
 use Rattle.table_laws.specs.History.{Put, history, put_under, body_of}
 use Rattle.statement_calls.specs.declared.finish.Finish.{Finish}
 use Rattle.table_laws.specs.Runs.{replies_of, IsRun}
@@ -45,8 +44,8 @@ faulted (e ∷ es) n b (inr later) = inr (faulted es n b later)
 pub put_faulted : (t : Tag) (past journal : Entries) (n b : List ℕ) → past ≡ backwards [] journal → PutIn (own t past) n b Fault → FaultedIn (own t journal) n b
 put_faulted t past journal n b is h = elim (put_back t [] journal n b Fault (subst (λ (l : Entries). PutIn (own t l) n b Fault) is h)) [ inl none ↦ absurd none | inr put ↦ faulted (own t journal) n b put ]
 
-module _ (level : Level) (K : Tag → List ℕ → List ℕ → Type 0) (script : Tag → Option Statement) (replies : Tag → Option Reply) (tags : (tag : Tag) (statement : Statement) → script tag ≡ Some statement → IsTag tag)
-    (past : Entries) (os : Objects) (ps : List Put) (s : Stands level K script replies tags past os ps) where
+module _ (K : Tag → List ℕ → List ℕ → Type 0) (script : Tag → Option Statement) (replies : Tag → Option Reply) (tags : (tag : Tag) (statement : Statement) → script tag ≡ Some statement → IsTag tag)
+    (past : Entries) (os : Objects) (ps : List Put) (s : Stands K script replies tags past os ps) where
   -- a commit of a refused statement was answered by a fault
   in_doubt : (t : Tag) (r : Refusal) (version : ℕ) (p : Put) → ClaimsNothing (own t past) r → put_under ps (commit_text version) ≡ Some p → p.tag ≡ t → IsUnknown r × PutIn (own t past) (commit_text version) p.body Fault
   in_doubt t r version p claim is same =
@@ -66,7 +65,7 @@ module _ (level : Level) (K : Tag → List ℕ → List ℕ → Type 0) (script 
 pub refused_at : (limit : ℕ) (script : Tag → Option Statement) (outcomes : Tag → Option Finish) (moments : List Moment) → IsLegal [] 0 moments → IsRun limit script outcomes (entries_of moments)
     → RefusedCommitNothing script (replies_of outcomes) moments
 refused_at limit script outcomes moments legal run t st r version p is_st is_reply is same =
-    let e = run_end Serializable limit script outcomes moments legal run in
-    let claim = claims Serializable limit script outcomes moments legal run e t st (Refused r) is_st is_reply in
-    let d = in_doubt Serializable (SessionKnows (entries_of moments)) script (replies_of outcomes) run.tags e.past e.os (history [] moments) e.stands t r version p claim is same in
+    let e = run_end limit script outcomes moments legal run in
+    let claim = claims limit script outcomes moments legal run e t st (Refused r) is_st is_reply in
+    let d = in_doubt (SessionKnows (entries_of moments)) script (replies_of outcomes) run.tags e.past e.os (history [] moments) e.stands t r version p claim is same in
     (d.0, put_faulted t e.past (entries_of moments) (commit_text version) p.body e.is d.1)

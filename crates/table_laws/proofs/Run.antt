@@ -1,8 +1,6 @@
 -- Every legal completion of a run's journal is lawful.
-use Rattle.table_laws.specs.Levels.{Serializable}
 use Rattle.table_laws.specs.Lawful.{EachRunIsLawful}
-use Rattle.table_laws.proofs.Ends.{serial_at, once_at, first_at, commits_at, files_at, lands_at, committed_at, read_at, first_is_empty}
-use Rattle.table_laws.proofs.Folded.{rows_are_folded}
+use Rattle.table_laws.proofs.Ends.{serial_at, folded_at, once_at, first_at, commits_at, files_at, lands_at, committed_at, read_at, first_is_empty}
 use Rattle.table_laws.proofs.Moments.{puts_at_moments}
 use Rattle.table_laws.proofs.Created.{created_at}
 use Rattle.table_laws.proofs.Refused.{refused_at}
@@ -10,7 +8,7 @@ use Rattle.table_laws.proofs.Refused.{refused_at}
 pub each_run_is_lawful : EachRunIsLawful
 each_run_is_lawful limit script outcomes moments legal run = record {
   serial = serial_at limit script outcomes moments legal run;
-  folded = rows_are_folded script moments (serial_at limit script outcomes moments legal run Serializable) (first_is_empty moments);
+  folded = folded_at limit script outcomes moments legal run;
   first = first_at limit script outcomes moments legal run;
   empty = first_is_empty moments;
   once = once_at limit script outcomes moments legal run;

@@ -1,6 +1,7 @@
 -- An answered statement's entries are lawful.
 use Rattle.std.proofs.Common.{◌≡◌, inl, inr, ℕ, suc, ◌+◌, ◌≤◌, ◌<◌, ◌^◌, Bool, true, false, List, [], ◌∷◌, ◌++◌, length, refl, sym, ◌∙◌, ap, subst, arith}
 use Rattle.std.specs.Prelude.{MatchBool, MatchOption, Option, Some, None, Ok, nat_lt, if◌then◌else◌}
+use Rattle.std.specs.List.{filter}
 use Rattle.std.proofs.lemmas.List.{append-nil, append_assoc}
 use Rattle.std.proofs.lemmas.Slice.Eq.{bytes_eq-Decides}
 use Rattle.std.proofs.lemmas.Bool.Decides.{nat_tests}
@@ -34,18 +35,22 @@ use Rattle.statement_calls.specs.Objects.{next_commit, apply_next, commits_left,
 use Rattle.statement_calls.specs.Outcome.{Ends, refusal_of_load, refusal_of_scan}
 use Rattle.statement_calls.specs.Texts.{read_commit, read_file, file_fault}
 use Rattle.statement_calls.specs.Answered.{retention, names_of, Base, base_of, kept_after, committed, AtCommit, Appends, AfterScan, Selects, AfterLoad, AtLoad, LoadsFrom, Loads, Makes, AfterList, Answered}
-use Rattle.table_laws.specs.Rows.{Row}
-use Rattle.table_laws.specs.Operations.{Operation, operation_of}
-use Rattle.table_laws.specs.Operations as operations
-use Rattle.table_laws.proofs.CommitEffects.{effect_of}
-use Rattle.table_laws.specs.Levels.{Level}
+use Rattle.table_changes.specs.Rows.{Row}
+use Rattle.table_changes.specs.Table.{File}
+use Rattle.table_changes.specs.Operations.{Operation}
+use Rattle.table_changes.specs.Statements.{insert_of}
+use Rattle.table_laws.specs.Commits.{files_in, meta_in, schema_in}
+use Rattle.table_laws.specs.Operations.{Scope, NoRow, operation_of}
+use Rattle.table_laws.proofs.CommitEffects.{effect_of, Says, judge_of}
+use Rattle.table_laws.proofs.Sound.{inserts_rows}
+use Rattle.table_laws.proofs.Effects.{loaded_columns}
 use Rattle.table_laws.specs.Runs.{reply_in, or_first, listed_by, told_by, version_put, with_version, versions_put}
 use Rattle.table_laws.proofs.Sessions.{GotIn, StoredIn, LoadedTo, KnownKept}
-use Rattle.table_laws.proofs.Lawful.{Known, NoPut, AllLost, first_past, judge_of, AllScanned, Cleared, Knows, versions_down, AllWon, IsFile, IsTable, IsCommit, AllLawful}
+use Rattle.table_laws.proofs.Lawful.{Known, NoPut, AllLost, first_past, AllGot, AllScanned, Cleared, Knows, versions_down, AllWon, IsFile, IsTable, IsCommit, AllLawful}
 use Rattle.table_laws.proofs.Known.{loaded_more, knows_more, scanned_more, scanned_push}
 use Rattle.table_laws.proofs.Phases.{same_put, now_no_put, list_no_put, none_put, no_commit_put, lost_other, lost_to, given_more, known_more, Fresh, fresh_get, none_lost, replied, ended_lost, at_now, at_list, at_gets, at_put_new, at_attempt}
 use Rattle.table_laws.proofs.Loads.{Loading, loading_more, loading_on, all_loaded, base_known}
-use Rattle.table_laws.proofs.Texts.{append_says}
+use Rattle.table_laws.proofs.Texts.{append_says, append_clears}
 
 -- a commit's put is one of its version, and a data file's of none
 pub commit_put : (v : ℕ) (body : List ℕ) → v < 2 ^ 64 → version_put (PutNew (commit_text v) body) ≡ Some v
@@ -88,49 +93,51 @@ one_won e f past read v body got answer won k from to = by (nat_lt k v) refl
     by false more = let same : v ≡ k = grind (arith, nat_tests) in (body, inl (got ∙ ap (λ (n : ℕ). Get (commit_text (suc n))) same, answer))
 
 -- what a statement knows before an attempt, after so many lost ones
-pub record Attempts (level : Level) (K : List ℕ → List ℕ → Type 0) (tag : Tag) (op : Operation) (start read : ℕ) (s : Snapshot) (view : List ℕ → List Row) (lost : ℕ) (past : Entries) : Type 0 where
+pub record Attempts (K : List ℕ → List ℕ → Type 0) (tag : Tag) (op : Operation Scope) (start read : ℕ) (s : Snapshot) (view : File → List Row) (lost : ℕ) (past : Entries) : Type 0 where
   pub before : ℕ
   pub next : suc read + lost ≡ suc before
   pub started : first_past told_by past ≡ Some start
   pub listed : first_past listed_by past ≡ Some read
-  pub knows : Knows level tag op start read s view (Known K past) (StoredIn past) before
+  pub knows : Knows tag op start read s view (Known K past) (StoredIn past) before
   pub all_lost : AllLost past
   pub puts : versions_put past ≡ versions_down read lost
   pub won : AllWon past read before
 
-module _ (level : Level) (K : List ℕ → List ℕ → Type 0) (tag : Tag) (op : Operation) (start read : ℕ) (s : Snapshot) (view : List ℕ → List Row) where
-  grown : (v : ℕ) (past : Entries) (e : JournalEntry) → Knows level tag op start read s view (Known K past) (StoredIn past) v → Knows level tag op start read s view (Known K (e ∷ past)) (StoredIn (e ∷ past)) v
-  grown v past e k = knows_more level tag op start read s view (Known K past) (StoredIn past) (Known K (e ∷ past)) (StoredIn (e ∷ past)) v (known_more K past e) (λ n b h. inr h) k
+module _ (K : List ℕ → List ℕ → Type 0) (tag : Tag) (op : Operation Scope) (start read : ℕ) (s : Snapshot) (view : File → List Row) where
+  grown : (v : ℕ) (past : Entries) (e : JournalEntry) → Knows tag op start read s view (Known K past) (StoredIn past) v → Knows tag op start read s view (Known K (e ∷ past)) (StoredIn (e ∷ past)) v
+  grown v past e k = knows_more tag op start read s view (Known K past) (StoredIn past) (Known K (e ∷ past)) (StoredIn (e ∷ past)) v (known_more K past e) (λ n b h. inr h) k
 
   -- a winner without a clash: the next version may be tried
-  won_over : (v : ℕ) (G S : List ℕ → List ℕ → Type 0) (body : List ℕ) → G (commit_text (suc v)) body → ((t : Commit) → read_commit (suc v) body ≡ Some t → judge_of level op view s.files t ≡ None)
-      → Knows level tag op start read s view G S v → Knows level tag op start read s view G S (suc v)
+  won_over : (v : ℕ) (G S : List ℕ → List ℕ → Type 0) (body : List ℕ) → G (commit_text (suc v)) body → ((t : Commit) → read_commit (suc v) body ≡ Some t → judge_of (meta_in s) op view (files_in s) t ≡ None)
+      → Knows tag op start read s view G S v → Knows tag op start read s view G S (suc v)
   won_over v G S body got clear k = record {
     below = let b = k.below in omega arith;
     loaded = k.loaded;
     files = k.files;
+    new = k.new;
+    written = k.written;
     stored = k.stored;
     previous = (body, got);
     clear = λ n from to. by n from to (nat_lt n v) refl;
   }
     where
-      by : (n : ℕ) → read ≤ n → n < suc v → (b : Bool) → nat_lt n v ≡ b → Cleared G (judge_of level op view s.files) n
+      by : (n : ℕ) → read ≤ n → n < suc v → (b : Bool) → nat_lt n v ≡ b → Cleared G (judge_of (meta_in s) op view (files_in s)) n
       by n from to true e = k.clear n from (grind (arith, nat_tests))
-      by n from to false e = let same : v ≡ n = grind (arith, nat_tests) in subst (λ (m : ℕ). Cleared G (judge_of level op view s.files) m) same (body, got, clear)
+      by n from to false e = let same : v ≡ n = grind (arith, nat_tests) in subst (λ (m : ℕ). Cleared G (judge_of (meta_in s) op view (files_in s)) m) same (body, got, clear)
 
-  module _ (statement : Statement) (is_op : operation_of statement ≡ Some op) (plan : CommitPlan)
-      (says : (v : ℕ) → read_commit (suc v) plan.text ≡ Some (effect_of tag start op view s.files))
-      (clears : (k : ℕ) (body winner : List ℕ) → verdict_of plan body ≡ verdict.Clear winner → (t : Commit) → read_commit (suc k) body ≡ Some t → judge_of level op view s.files t ≡ None) where
+  module _ (statement : Statement) (is_op : operation_of (schema_in s) statement ≡ Some op) (plan : CommitPlan)
+      (says : (v : ℕ) → Says (suc v) plan.text (effect_of tag start op view (files_in s)))
+      (clears : (k : ℕ) (body winner : List ℕ) → verdict_of plan body ≡ verdict.Clear winner → (t : Commit) → read_commit (suc k) body ≡ Some t → judge_of (meta_in s) op view (files_in s) t ≡ None) where
     abbrev P : ℕ → Entries → Type 0
-    P lost past = Attempts level K tag op start read s view lost past
+    P lost past = Attempts K tag op start read s view lost past
 
-    said : (v version : ℕ) → suc v ≡ version → read_commit version plan.text ≡ Some (effect_of tag start op view s.files)
-    said v version is = subst (λ (n : ℕ). read_commit n plan.text ≡ Some (effect_of tag start op view s.files)) is (says v)
+    said : (v version : ℕ) → suc v ≡ version → Says version plan.text (effect_of tag start op view (files_in s))
+    said v version is = subst (λ (n : ℕ). Says n plan.text (effect_of tag start op view (files_in s))) is (says v)
 
     pub attempts : (limit : ℕ) (out : Option Finish) (kept : Option Kept) (past es : Entries) → suc read + (0 + limit) < 2 ^ 64 → P 0 past → AtCommit tag limit out kept start (suc read) plan (committed read) es
-        → AllLawful level K tag statement (reply_in out) past es
+        → AllLawful K tag statement (reply_in out) past es
     attempts limit out kept past es small p h =
-        at_attempt level K tag statement out kept plan (record { start = start; retention = retention; first = suc read }) (committed read) P
+        at_attempt K tag statement out kept plan (record { start = start; retention = retention; first = suc read }) (committed read) P
         (λ lost past p. p.all_lost)
         (λ lost past e is p. record {
           before = p.before;
@@ -202,16 +209,16 @@ module _ (level : Level) (K : List ℕ → List ℕ → Type 0) (tag : Tag) (op 
         })
         limit 0 [] past es small p h
 
-module _ (level : Level) (K : List ℕ → List ℕ → Type 0) (tag : Tag) (limit : ℕ) (limited : limit < 2 ^ 32) where
+module _ (K : List ℕ → List ℕ → Type 0) (tag : Tag) (limit : ℕ) (limited : limit < 2 ^ 32) where
   -- an append: its data file, then its commit
   appends : (rows : List Row) → rows_of_text (text_of_rows rows) ≡ Some rows → (out : Option Finish) (kept : Option Kept) (start read : ℕ) (s : Snapshot) (past es : Entries) → read < version_limit → LoadedTo (Known K past) (suc read) s → Fresh start read past
-      → Appends tag limit out rows kept start read es → AllLawful level K tag (Insert rows) (reply_in out) past es
+      → Appends tag limit out rows kept start read es → AllLawful K tag (Insert rows) (reply_in out) past es
   appends rows faithful out kept start read s past es small loaded fresh h =
-      at_put_new level K tag (Insert rows) out kept (data_text tag start 0) (text_of_rows rows) _ _ _ past es (none_lost past fresh.none) (IsFile start refl fresh.none) h
-      (λ e rest put is on. ended_lost level K tag (Insert rows) out kept _ (e ∷ past) rest (still e put) on)
+      at_put_new K tag (Insert rows) out kept (data_text tag start 0) (text_of_rows rows) _ _ _ past es (none_lost past fresh.none) (IsFile start refl fresh.none) h
+      (λ e rest put is on. ended_lost K tag (Insert rows) out kept _ (e ∷ past) rest (still e put) on)
       (λ e rest put is on.
-      attempts level K tag (operations.Insert rows) start read s (λ p. []) (Insert rows) refl (record { text = text_of_add (data_text tag start 0); makes_table = false })
-      (append_says tag start rows (λ p. []) s.files) (λ k body winner clear t reads. refl)
+      attempts K tag (insert_of NoRow rows) start read s (λ a. []) (Insert rows) (inserts_rows s columns.0 columns.1 rows) (record { text = text_of_add (data_text tag start 0); makes_table = false })
+      (append_says tag start rows (λ a. []) (files_in s)) (λ k body winner clear t reads. append_clears (meta_in s) rows (λ a. []) (files_in s) k body t reads)
       limit out kept (e ∷ past) rest (omega arith)
       (record {
         before = read;
@@ -221,7 +228,9 @@ module _ (level : Level) (K : List ℕ → List ℕ → Type 0) (tag : Tag) (lim
         knows = record {
           below = omega arith;
           loaded = loaded_more (Known K past) (Known K (e ∷ past)) (known_more K past e) (suc read) s loaded;
-          files = tt;
+          files = none_got (Known K (e ∷ past)) (files_in s);
+          new = rows;
+          written = refl;
           stored = (text_of_rows rows, inl (put, is), faithful);
           previous = (loaded.1, known_more K past e (commit_text read) loaded.1 loaded.4);
           clear = λ k from to. absurd (let a : read ≤ k = from in let b : k < read = to in omega arith);
@@ -230,8 +239,16 @@ module _ (level : Level) (K : List ℕ → List ℕ → Type 0) (tag : Tag) (lim
         puts = other_put e past (PutNew (data_text tag start 0) (text_of_rows rows)) put (data_put tag start (text_of_rows rows)) ∙ no_versions past fresh.none;
         won = λ k from to. absurd (let a : read ≤ k = from in let b : k < read = to in omega arith);
       }) on)
-      (λ e rest put is on. ended_lost level K tag (Insert rows) out kept _ (e ∷ past) rest (still e put) on)
+      (λ e rest put is on. ended_lost K tag (Insert rows) out kept _ (e ∷ past) rest (still e put) on)
     where
+      columns : (columns : List (List ℕ)) × (s.columns ≡ Some columns)
+      columns = loaded_columns (Known K past) read s loaded
+
+      -- it gets no files
+      none_got : (G : List ℕ → List ℕ → Type 0) (fs : List File) → AllGot G (λ a. []) (filter (λ a. false) fs)
+      none_got G [] = tt
+      none_got G (a ∷ fs) = none_got G fs
+
       still : (e : JournalEntry) → e.call ≡ PutNew (data_text tag start 0) (text_of_rows rows) → AllLost (e ∷ past)
       still e put = lost_other e past (λ v b other. data_is_no_commit tag start 0 v (let two = same_put _ _ _ _ (sym put ∙ other) in two.0)) (none_lost past fresh.none)
 
@@ -269,9 +286,9 @@ module _ (level : Level) (K : List ℕ → List ℕ → Type 0) (tag : Tag) (lim
       by (path ∷ paths) all first is = by_rows path paths (read_file body) refl all (cc) is
 
   -- a select: its files, then their rows
-  selects : (out : Option Finish) (kept : Option Kept) (start read : ℕ) (s : Snapshot) (past es : Entries) → LoadedTo (Known K past) (suc read) s → Fresh start read past → Selects tag limit out s kept read es → AllLawful level K tag Select (reply_in out) past es
+  selects : (out : Option Finish) (kept : Option Kept) (start read : ℕ) (s : Snapshot) (past es : Entries) → LoadedTo (Known K past) (suc read) s → Fresh start read past → Selects tag limit out s kept read es → AllLawful K tag Select (reply_in out) past es
   selects out kept start read s past es loaded fresh h =
-      at_gets level K tag Select out kept next_file scan_next refusal_of_scan (λ f rest. AfterScan tag limit out kept read (length s.files) f rest) (Scans start read s)
+      at_gets K tag Select out kept next_file scan_next refusal_of_scan (λ f rest. AfterScan tag limit out kept read (length s.files) f rest) (Scans start read s)
       (λ f past x. none_lost past (x.fresh).none) (scans_on start read s)
       (record { paths = paths_of s.files; got = [] }) past es (record { done = []; all = refl; scanned = tt; loaded = loaded; fresh = fresh }) h
       (λ f past rest none x on. by f past rest x (none_left f.paths none) on)
@@ -280,11 +297,11 @@ module _ (level : Level) (K : List ℕ → List ℕ → Type 0) (tag : Tag) (lim
       none_left [] none = refl
       none_left (path ∷ paths) none = cc
 
-      by : (f : Files) (past rest : Entries) → Scans start read s f past → f.paths ≡ [] → AfterScan tag limit out kept read (length s.files) f rest → AllLawful level K tag Select (reply_in out) past rest
-      by f past rest x none (inl short) = ended_lost level K tag Select out kept refusal.NoMemory past rest (none_lost past (x.fresh).none) short
+      by : (f : Files) (past rest : Entries) → Scans start read s f past → f.paths ≡ [] → AfterScan tag limit out kept read (length s.files) f rest → AllLawful K tag Select (reply_in out) past rest
+      by f past rest x none (inl short) = ended_lost K tag Select out kept refusal.NoMemory past rest (none_lost past (x.fresh).none) short
       by f past rest x none (inr on) =
           let all : x.done ≡ paths_of s.files = sym (append-nil x.done) ∙ ap (λ (ps : List (List ℕ)). x.done ++ ps) (sym none) ∙ x.all in
-          replied level K tag Select out kept (Rows read on.0 (length f.got) (length s.files)) past rest
+          replied K tag Select out kept (Rows read on.0 (length f.got) (length s.files)) past rest
           (record {
             listed = (x.fresh).listed;
             s = s;
@@ -302,15 +319,15 @@ module _ (level : Level) (K : List ℕ → List ℕ → Type 0) (tag : Tag) (lim
   whole over.Select = Select
 
   loaded_then : (statement : TableStatement) → ((rows : List Row) → whole statement ≡ Insert rows → rows_of_text (text_of_rows rows) ≡ Some rows) → (out : Option Finish) (kept : Option Kept) (start read : ℕ) (s : Snapshot) (past es : Entries) → read < version_limit
-      → LoadedTo (Known K past) (suc read) s → Fresh start read past → AfterLoad tag limit out statement start read kept s es → AllLawful level K tag (whole statement) (reply_in out) past es
+      → LoadedTo (Known K past) (suc read) s → Fresh start read past → AfterLoad tag limit out statement start read kept s es → AllLawful K tag (whole statement) (reply_in out) past es
   loaded_then (over.Insert rows) faithful out kept start read s past es small loaded fresh h = appends rows (faithful rows refl) out kept start read s past es small loaded fresh h
   loaded_then over.Select faithful out kept start read s past es small loaded fresh h = selects out kept start read s past es loaded fresh h
 
   -- the newest version is loaded from a base on
   at_base : (statement : TableStatement) → ((rows : List Row) → whole statement ≡ Insert rows → rows_of_text (text_of_rows rows) ≡ Some rows) → (out : Option Finish) (start v : ℕ) (base : Base) (past es : Entries) → v < version_limit
-      → Loading K (suc v) base.commits → Fresh start v past → AtLoad tag limit out statement start v base es → AllLawful level K tag (whole statement) (reply_in out) past es
+      → Loading K (suc v) base.commits → Fresh start v past → AtLoad tag limit out statement start v base es → AllLawful K tag (whole statement) (reply_in out) past es
   at_base statement faithful out start v base past es small known fresh h =
-      at_gets level K tag (whole statement) out base.spare next_commit apply_next refusal_of_load
+      at_gets K tag (whole statement) out base.spare next_commit apply_next refusal_of_load
       (λ c rest. AfterLoad tag limit out statement start v (Some (kept_after base.spare (record { versions = suc v; state = c.table }))) c.table rest) (λ c past. Loading (Known K past) (suc v) c × Fresh start v past)
       (λ c past x. none_lost past (x.1).none)
       (λ c new name body e past wanted call answer is x. (
@@ -323,28 +340,28 @@ module _ (level : Level) (K : List ℕ → List ℕ → Type 0) (tag : Tag) (lim
 
   loads : (kept : Option Kept) → KnownKept K kept → (statement : TableStatement) → ((rows : List Row) → whole statement ≡ Insert rows → rows_of_text (text_of_rows rows) ≡ Some rows)
       → (out : Option Finish) (start : ℕ) (l : List Listed) (o : Option ℕ) (past es : Entries) → NoPut past → first_past told_by past ≡ Some start → ((v : ℕ) → o ≡ Some v → first_past listed_by past ≡ Some v)
-      → Loads tag limit out statement start l kept o es → AllLawful level K tag (whole statement) (reply_in out) past es
-  loads kept held statement faithful out start l None past es none started seen h = ended_lost level K tag (whole statement) out kept refusal.NoTable past es (none_lost past none) h
+      → Loads tag limit out statement start l kept o es → AllLawful K tag (whole statement) (reply_in out) past es
+  loads kept held statement faithful out start l None past es none started seen h = ended_lost K tag (whole statement) out kept refusal.NoTable past es (none_lost past none) h
   loads kept held statement faithful out start l (Some v) past es none started seen h = by (nat_lt v version_limit) refl h
     where
-      from : v < version_limit → (o : Option ℕ) → MatchOption o (AtLoad tag limit out statement start v (base_of kept v) es) (λ k. Ends out kept (refusal.LogGone (commit_text k)) es) → AllLawful level K tag (whole statement) (reply_in out) past es
-      from small (Some k) on = ended_lost level K tag (whole statement) out kept (refusal.LogGone (commit_text k)) past es (none_lost past none) on
+      from : v < version_limit → (o : Option ℕ) → MatchOption o (AtLoad tag limit out statement start v (base_of kept v) es) (λ k. Ends out kept (refusal.LogGone (commit_text k)) es) → AllLawful K tag (whole statement) (reply_in out) past es
+      from small (Some k) on = ended_lost K tag (whole statement) out kept (refusal.LogGone (commit_text k)) past es (none_lost past none) on
       from small None on = at_base statement faithful out start v (base_of kept v) past es small (base_known K kept v held).0 (record { none = none; started = started; listed = seen v refl }) on
 
-      cut_or : v < version_limit → LoadsFrom tag limit out statement start l kept v (base_of kept v) es → AllLawful level K tag (whole statement) (reply_in out) past es
-      cut_or small (inl short) = ended_lost level K tag (whole statement) out kept refusal.NoMemory past es (none_lost past none) short
+      cut_or : v < version_limit → LoadsFrom tag limit out statement start l kept v (base_of kept v) es → AllLawful K tag (whole statement) (reply_in out) past es
+      cut_or small (inl short) = ended_lost K tag (whole statement) out kept refusal.NoMemory past es (none_lost past none) short
       cut_or small (inr on) = from small (missing l (base_of kept v).commits.at (commits_left (base_of kept v).commits)) on
 
       by : (b : Bool) → nat_lt v version_limit ≡ b → MatchBool b (LoadsFrom tag limit out statement start l kept v (base_of kept v) es) (Ends out kept (refusal.Unsupported Versions) es)
-          → AllLawful level K tag (whole statement) (reply_in out) past es
+          → AllLawful K tag (whole statement) (reply_in out) past es
       by true e on = cut_or (grind (arith, nat_tests)) on
-      by false e on = ended_lost level K tag (whole statement) out kept (refusal.Unsupported Versions) past es (none_lost past none) on
+      by false e on = ended_lost K tag (whole statement) out kept (refusal.Unsupported Versions) past es (none_lost past none) on
 
   -- the making of a table
-  makes : (spec : TableSpec) (start : ℕ) (out : Option Finish) (kept : Option Kept) (o : Option ℕ) (past es : Entries) → NoPut past → Makes tag limit out spec.columns start kept o es → AllLawful level K tag (Table spec) (reply_in out) past es
-  makes spec start out kept (Some v) past es none h = ended_lost level K tag (Table spec) out kept refusal.TableThere past es (none_lost past none) h
+  makes : (spec : TableSpec) (start : ℕ) (out : Option Finish) (kept : Option Kept) (o : Option ℕ) (past es : Entries) → NoPut past → Makes tag limit out spec.columns start kept o es → AllLawful K tag (Table spec) (reply_in out) past es
+  makes spec start out kept (Some v) past es none h = ended_lost K tag (Table spec) out kept refusal.TableThere past es (none_lost past none) h
   makes spec start out kept None past es none h =
-      at_attempt level K tag (Table spec) out kept (record { text = text_of_columns (names_of spec.columns); makes_table = true }) (record { start = start; retention = retention; first = 0 }) (λ l. Created) (λ lost past. (lost ≡ 0) × NoPut past)
+      at_attempt K tag (Table spec) out kept (record { text = text_of_columns (names_of spec.columns); makes_table = true }) (record { start = start; retention = retention; first = 0 }) (λ l. Created) (λ lost past. (lost ≡ 0) × NoPut past)
       (λ lost past p. none_lost past p.1)
       (λ lost past e is p. (p.0, none_put e past Now is now_no_put p.1))
       (λ lost past small p. IsTable spec refl (ap commit_text (first lost p.0)) refl p.1)
@@ -369,18 +386,18 @@ module _ (level : Level) (K : List ℕ → List ℕ → Type 0) (tag : Tag) (lim
 
   after_list : (kept : Option Kept) → KnownKept K kept → (statement : Statement) → ((rows : List Row) → statement ≡ Insert rows → rows_of_text (text_of_rows rows) ≡ Some rows)
       → (out : Option Finish) (start : ℕ) (l : List Listed) (past es : Entries) → NoPut past → first_past told_by past ≡ Some start → ((v : ℕ) → newest l ≡ Some v → first_past listed_by past ≡ Some v)
-      → AfterList tag limit out statement kept start l es → AllLawful level K tag statement (reply_in out) past es
+      → AfterList tag limit out statement kept start l es → AllLawful K tag statement (reply_in out) past es
   after_list kept held (Table spec) faithful out start l past es none started seen h = makes spec start out kept (newest l) past es none h
   after_list kept held (Insert rows) faithful out start l past es none started seen h = loads kept held (over.Insert rows) faithful out start l (newest l) past es none started seen h
   after_list kept held Select faithful out start l past es none started seen h = loads kept held over.Select faithful out start l (newest l) past es none started seen h
 
   -- an answered statement's entries are lawful
   pub answered_lawful : (kept : Option Kept) → KnownKept K kept → (statement : Statement) → ((rows : List Row) → statement ≡ Insert rows → rows_of_text (text_of_rows rows) ≡ Some rows)
-      → (es : Entries) (out : Option Finish) → Answered tag limit kept statement es out → AllLawful level K tag statement (reply_in out) [] es
+      → (es : Entries) (out : Option Finish) → Answered tag limit kept statement es out → AllLawful K tag statement (reply_in out) [] es
   answered_lawful kept held statement faithful es out h =
-      at_now level K tag statement out kept _ _ [] es (none_lost [] (λ n b a k. absurd k)) h (λ start e rest now time on.
+      at_now K tag statement out kept _ _ [] es (none_lost [] (λ n b a k. absurd k)) h (λ start e rest now time on.
       let quiet = none_put e [] Now now now_no_put (λ n b a k. absurd k) in
-      at_list level K tag statement out kept _ log_prefix _ (e ∷ []) rest (none_lost (e ∷ []) quiet) on (λ l f rest' call names on'.
+      at_list K tag statement out kept _ log_prefix _ (e ∷ []) rest (none_lost (e ∷ []) quiet) on (λ l f rest' call names on'.
       after_list kept held statement faithful out start l (f ∷ e ∷ []) rest'
       (none_put f (e ∷ []) (ListNames log_prefix) call (list_no_put log_prefix) quiet)
       (given_more told_by (e ∷ []) f start (ap (λ (x : Call). told_by x e.answer) now ∙ ap (λ (a : Answer). told_by Now a) time))

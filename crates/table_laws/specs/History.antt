@@ -1,4 +1,6 @@
--- The versions of a table, by the puts that took effect in a journal.
+-- The versions of a table, by the puts that took effect in a journal: which are committed, and their metadata, live files and rows. The law (Laws) speaks
+-- of a journal by these words alone, so retention may add what stands at each prefix.
+-- The crate above cites each_run_is_lawful alone.
 use Rattle.std.specs.Prelude.{ℕ, Bool, false, if◌then◌else◌, List, [], ◌∷◌, ◌++◌, Option, Some, None, IsSome, option_and_then}
 use Rattle.std.specs.Str.{bytes_eq}
 use Rattle.edge_api.specs.declared.call.Tag.{Tag}
@@ -8,11 +10,14 @@ use Rattle.edge_api.specs.declared.call.Answer.{Answer}
 use Rattle.edge_api.specs.declared.call.Answer.TheVariants.{Fault}
 use Rattle.edge_api.specs.declared.call.Object.{Object}
 use Rattle.edge_api.specs.Journal.{Objects, Moment, after_moment, object_at}
+use Rattle.row_base.specs.Schema.{TableSchema}
 use Rattle.table_rules.specs.Names.{commit_text}
-use Rattle.snapshot_replay.specs.Table.{Commit}
+use Rattle.snapshot_replay.specs.Table.{Commit as LogCommit}
 use Rattle.statement_calls.specs.Texts.{read_commit, read_file}
-use Rattle.table_laws.specs.Rows.{Row}
-use Rattle.table_laws.specs.Files.{live_by, rows_in}
+use Rattle.table_changes.specs.Rows.{Row}
+use Rattle.table_changes.specs.Table.{File, Meta, Commit, Level, Serializable, live_by, meta_by, schema_of, level_of, rows_in}
+use Rattle.table_changes.specs.Operations.{Operation}
+use Rattle.table_laws.specs.Commits.{changes_of}
 
 -- a put of a free name that took effect, with the clock at it
 pub record Put : Type 0 where
@@ -65,22 +70,36 @@ abbrev pub or_none : {A : Type 0} → Option (List A) → List A
 or_none None = []
 or_none (Some xs) = xs
 
--- a commit that says nothing
-abbrev pub or_nothing : Option Commit → Commit
-or_nothing None = record { columns = None; lines = []; blind = false; changes = false }
-or_nothing (Some t) = t
+-- what a commit says, where it reads; else nothing
+abbrev pub or_nothing : Option LogCommit → Commit
+or_nothing None = record { blind = false; protocol = false; meta = None; txns = []; lines = [] }
+or_nothing (Some t) = changes_of t
 
 -- what the text put as a version's commit says
 abbrev pub commit_at : List Put → ℕ → Commit
 commit_at ps version = or_nothing (option_and_then (read_commit version) (body_of (put_under ps (commit_text version))))
 
--- the rows of the body put under a path
-abbrev pub rows_of : List Put → List ℕ → List Row
-rows_of ps path = or_none (option_and_then read_file (body_of (put_under ps path)))
+-- the live files of a version, its metadata and its schema
+abbrev pub live_at : List Put → ℕ → List File
+live_at ps version = live_by (commit_at ps) version
 
--- the rows of a version: those under its live paths
+abbrev pub meta_at : List Put → ℕ → Option Meta
+meta_at ps version = meta_by (commit_at ps) version
+
+abbrev pub schema_at : List Put → ℕ → Option TableSchema
+schema_at ps version = schema_of (meta_at ps version)
+
+-- the level at which an operation that read a version is checked: the table's at that version, or the stricter one
+abbrev pub level_for : {Scope : Type 0} → List Put → Operation Scope → ℕ → Level
+level_for ps op version = if op.strict then Serializable else level_of (meta_at ps version)
+
+-- the rows of a file: those of the body put under its name. The interim text is read without a schema
+abbrev pub rows_of : List Put → Option TableSchema → File → List Row
+rows_of ps schema a = or_none (option_and_then read_file (body_of (put_under ps a.name)))
+
+-- the rows of a version: those of its live files, as its schema has them
 abbrev pub rows_at : List Put → ℕ → List Row
-rows_at ps version = rows_in (rows_of ps) (live_by (commit_at ps) version)
+rows_at ps version = rows_in (rows_of ps (schema_at ps version)) (live_at ps version)
 
 -- the version's commit was put
 abbrev pub IsCommitted : List Put → ℕ → Type 0

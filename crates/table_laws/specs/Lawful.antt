@@ -5,7 +5,6 @@ use Rattle.edge_api.specs.Journal.{Moment, IsLegal, entries_of}
 use Rattle.op_types.specs.declared.statement.Statement.{Statement}
 use Rattle.op_types.specs.declared.reply.Reply.{Reply}
 use Rattle.statement_calls.specs.declared.finish.Finish.{Finish}
-use Rattle.table_laws.specs.Levels.{Level}
 use Rattle.table_laws.specs.Runs.{IsRun, replies_of}
 use Rattle.table_laws.specs.Laws.{VersionsAreSerial, CommitsOnce, FirstIsEmpty, FirstMakesTable, CommitsRead, FilesRead, CommitsLand, CommitPutsAreDecided, RepliesCreated, RepliesCommitted, RepliesRead}
 use Rattle.table_laws.specs.Folded.{RowsAreFolded}
@@ -13,9 +12,10 @@ use Rattle.table_laws.specs.Refused.{RefusedCommitNothing}
 
 -- what holds of a journal, by the statement and the reply of each tag
 pub record IsLawful (script : Tag → Option Statement) (replies : Tag → Option Reply) (moments : List Moment) : Type 0 where
-  -- Each version is the one before with one statement's operation done, at both levels. The operation misses no row of its scope at the stricter level, and
-  -- rows of blind appends alone at the other. The rows of a version are what the operations up to it give, one after another from no rows on
-  pub serial : (level : Level) → VersionsAreSerial level script moments
+  -- Each version is the one before with one statement's operation done, at the level of the table that it read: the operation misses no row of its scope at
+  -- the stricter level, and rows of blind appends alone at the other. Where none can miss a row, the rows of a version are what the operations up to it
+  -- give, one after another from no rows on
+  pub serial : VersionsAreSerial script moments
   pub folded : RowsAreFolded script moments
   -- version 0 makes the table and has no rows, and each statement commits one version at most
   pub first : FirstMakesTable script moments

@@ -1,10 +1,13 @@
--- What holds of each run of a script, whatever the schedule and whatever the store loses.
-use Rattle.std.specs.Prelude.{◌≡◌, ◌≢◌, ◌⊎◌, ℕ, zero, suc, ◌+◌, ◌-◌, ◌<◌, ◌≤◌, ◌^◌, true, false, List, [], ◌∷◌, ◌++◌, length, Option, Some, None}
+-- What holds of each run of a script, whatever the schedule and whatever the store loses: of its versions, of the puts of its commits, and of its replies.
+-- IsLawful (Lawful) lists these laws, and proofs/Run proves them.
+-- The crate above cites each_run_is_lawful alone.
+use Rattle.std.specs.Prelude.{◌≡◌, ◌≢◌, ◌⊎◌, ℕ, zero, suc, ◌+◌, ◌-◌, ◌<◌, ◌≤◌, ◌^◌, true, false, List, [], ◌∷◌, ◌++◌, length, Option, Some, None, option_and_then}
 use Rattle.std.specs.List.{list_all}
 use Rattle.edge_api.specs.declared.call.Tag.{Tag}
 use Rattle.edge_api.specs.declared.call.Call.TheVariants.{PutNew}
 use Rattle.edge_api.specs.declared.call.Answer.TheVariants.{Fault, Stored, Taken}
 use Rattle.edge_api.specs.Journal.{Moment, entries_of}
+use Rattle.row_base.specs.Schema.{TableSchema}
 use Rattle.row_base.specs.Sorting.{Sorts}
 use Rattle.op_types.specs.declared.statement.Statement.{Statement}
 use Rattle.op_types.specs.declared.statement.Statement.TheVariants.{Table}
@@ -14,58 +17,64 @@ use Rattle.op_types.specs.declared.reply.Reply.TheVariants.{Created, Committed, 
 use Rattle.op_types.specs.declared.reply.CheckpointOutcome.{CheckpointOutcome}
 use Rattle.table_rules.specs.Names.{commit_text}
 use Rattle.line_texts.specs.Texts.{text_of_columns, is_word}
-use Rattle.snapshot_replay.specs.Table.{Add, Commit, table_commit}
+use Rattle.snapshot_replay.specs.Table.{table_commit}
+use Rattle.snapshot_replay.specs.Table.{Commit as LogCommit}
 use Rattle.call_phases.specs.Phases.{Entries}
 use Rattle.statement_calls.specs.Texts.{read_commit, read_file}
 use Rattle.statement_calls.specs.Answered.{names_of}
 use Rattle.actor_core.specs.Entries.{own}
-use Rattle.table_laws.specs.Rows.{Row}
-use Rattle.table_laws.specs.Operations.{Operation, operation_of, inserted}
-use Rattle.table_laws.specs.Levels.{Level}
-use Rattle.table_laws.specs.Serial.{SerialStep}
-use Rattle.table_laws.specs.Files.{live_by}
-use Rattle.table_laws.specs.History.{Put, history, put_under, commit_at, rows_at, IsCommitted}
+use Rattle.table_changes.specs.Rows.{Row}
+use Rattle.table_changes.specs.Table.{File}
+use Rattle.table_changes.specs.Operations.{Operation, inserted}
+use Rattle.table_changes.specs.Serial.{SerialStep}
+use Rattle.table_laws.specs.Operations.{Scope, passes, operation_of}
+use Rattle.table_laws.specs.History.{Put, history, put_under, live_at, meta_at, schema_at, level_for, rows_at, IsCommitted}
 use Rattle.table_laws.specs.Runs.{version_read, versions_put}
 use Rattle.table_laws.specs.Refused.{FaultedIn}
 
--- the statement of a put
-abbrev pub statement_of : (Tag → Option Statement) → Option Put → Option Statement
-statement_of script None = None
-statement_of script (Some p) = script p.tag
+-- the schema of the version that a statement read, where it read one
+abbrev pub schema_read : List Put → Option ℕ → Option TableSchema
+schema_read ps None = None
+schema_read ps (Some version) = schema_at ps version
+
+-- the operation of the statement that made a put, by the schema of the version that it read
+abbrev pub operation_by : (Tag → Option Statement) → Entries → List Put → Option Put → Option (Operation Scope)
+operation_by script journal ps None = None
+operation_by script journal ps (Some by) = option_and_then (operation_of (schema_read ps (version_read (own by.tag journal)))) (script by.tag)
+
+-- the operation by which a version was committed
+abbrev pub operation_at : (Tag → Option Statement) → Entries → List Put → ℕ → Option (Operation Scope)
+operation_at script journal ps version = operation_by script journal ps (put_under ps (commit_text version))
 
 -- the rows that an operation inserts, where there is one
-abbrev pub inserted_by : Option Operation → List Row
+abbrev pub inserted_by : Option (Operation Scope) → List Row
 inserted_by None = []
 inserted_by (Some op) = inserted op
 
--- the operation of a statement, where there is one
-abbrev pub operation_by : Option Statement → Option Operation
-operation_by None = None
-operation_by (Some statement) = operation_of statement
-
 -- the rows that a version appended, if it is a blind append
-abbrev pub appended : (Tag → Option Statement) → List Put → ℕ → List Row
-appended script ps version = inserted_by (operation_by (statement_of script (put_under ps (commit_text version))))
+abbrev pub appended : (Tag → Option Statement) → Entries → List Put → ℕ → List Row
+appended script journal ps version = inserted_by (operation_at script journal ps version)
 
--- version v + 1 follows from the version before by the operation of the one statement that put its commit, and by the version that this one read
-pub record Step (level : Level) (script : Tag → Option Statement) (journal : Entries) (ps : List Put) (v : ℕ) : Type 0 where
+-- Version v + 1 follows from the version before by the operation of the one statement that put its commit, and by the version that this one read, at the
+-- level of the table that it read. No statement of today changes the schema, so each row stays as it is
+pub record Step (script : Tag → Option Statement) (journal : Entries) (ps : List Put) (v : ℕ) : Type 0 where
   pub previous : IsCommitted ps v
   pub by : Put
   pub is_by : put_under ps (commit_text (suc v)) ≡ Some by
   pub statement : Statement
   pub is_statement : script by.tag ≡ Some statement
-  pub op : Operation
-  pub is_op : operation_of statement ≡ Some op
-  pub commit : Commit
-  pub reads : read_commit (suc v) by.body ≡ Some commit
   pub read : ℕ
   pub is_read : version_read (own by.tag journal) ≡ Some read
-  pub serial : SerialStep level (rows_at ps) (appended script ps) op read v
+  pub op : Operation Scope
+  pub is_op : operation_of (schema_at ps read) statement ≡ Some op
+  pub commit : LogCommit
+  pub reads : read_commit (suc v) by.body ≡ Some commit
+  pub serial : SerialStep passes (level_for ps op read) (meta_at ps) (rows_at ps) (appended script journal ps) op (λ x. x) read v
 
 -- each version is the one before with one statement's operation done. Versions are so contiguous from 0
-abbrev pub VersionsAreSerial : Level → (Tag → Option Statement) → List Moment → Type 0
-VersionsAreSerial level script moments = (v : ℕ) → suc v < 2 ^ 64 → IsCommitted (history [] moments) (suc v)
-    → Step level script (entries_of moments) (history [] moments) v
+abbrev pub VersionsAreSerial : (Tag → Option Statement) → List Moment → Type 0
+VersionsAreSerial script moments = (v : ℕ) → suc v < 2 ^ 64 → IsCommitted (history [] moments) (suc v)
+    → Step script (entries_of moments) (history [] moments) v
 
 -- version 0 has no rows
 abbrev pub FirstIsEmpty : List Moment → Type 0
@@ -84,24 +93,24 @@ FirstMakesTable script moments = (p : Put) → put_under (history [] moments) (c
 
 -- a version's commit was put, and its text reads as a commit
 abbrev pub ReadsAt : List Put → ℕ → Type 0
-ReadsAt ps version = (p : Put) × (put_under ps (commit_text version) ≡ Some p) × (t : Commit) × (read_commit version p.body ≡ Some t)
+ReadsAt ps version = (p : Put) × (put_under ps (commit_text version) ≡ Some p) × (t : LogCommit) × (read_commit version p.body ≡ Some t)
 
 -- all commits up to a version above 0 read
 abbrev pub CommitsRead : List Moment → Type 0
 CommitsRead moments = (v k : ℕ) → suc v < 2 ^ 64 → IsCommitted (history [] moments) (suc v) → k ≤ suc v → ReadsAt (history [] moments) k
 
--- a file was put under the path, and its body reads as rows
+-- a file was put under the name, and its body reads as rows
 abbrev pub FileReads : List Put → List ℕ → Type 0
-FileReads ps path = (p : Put) × (put_under ps path ≡ Some p) × (rows : List Row) × (read_file p.body ≡ Some rows)
+FileReads ps name = (p : Put) × (put_under ps name ≡ Some p) × (rows : List Row) × (read_file p.body ≡ Some rows)
 
 -- each of these files reads
-abbrev pub AllFilesRead : List Put → List Add → Type 0
+abbrev pub AllFilesRead : List Put → List File → Type 0
 AllFilesRead ps [] = Unit {0}
-AllFilesRead ps (a ∷ fs) = FileReads ps a.path × AllFilesRead ps fs
+AllFilesRead ps (a ∷ fs) = FileReads ps a.name × AllFilesRead ps fs
 
 -- each live file of a version reads
 abbrev pub FilesRead : List Moment → Type 0
-FilesRead moments = (v : ℕ) → v < 2 ^ 64 → IsCommitted (history [] moments) v → AllFilesRead (history [] moments) (live_by (commit_at (history [] moments)) v)
+FilesRead moments = (v : ℕ) → v < 2 ^ 64 → IsCommitted (history [] moments) v → AllFilesRead (history [] moments) (live_at (history [] moments) v)
 
 -- versions that one statement committed are one
 abbrev pub CommitsOnce : List Moment → Type 0
@@ -191,8 +200,8 @@ pub record HasRead (journal : Entries) (ps : List Put) (tag : Tag) (version : �
   pub committed : IsCommitted ps version
   pub reads : ReadsAt ps version
   pub rows : Sorts (rows_at ps version) given
-  pub files_read : read ≡ length (live_by (commit_at ps) version)
-  pub files_live : live ≡ length (live_by (commit_at ps) version)
+  pub files_read : read ≡ length (live_at ps version)
+  pub files_live : live ≡ length (live_at ps version)
 
 -- each reply of rows has exactly the rows of its version
 abbrev pub RepliesRead : (Tag → Option Statement) → (Tag → Option Reply) → List Moment → Type 0

@@ -1,8 +1,5 @@
-pub mod Rows
+pub mod Commits
 pub mod Operations
-pub mod Files
-pub mod Levels
-pub mod Serial
 pub mod History
 pub mod Runs
 pub mod Laws

@@ -2,10 +2,16 @@
 #![tactic(auto)]
 
 ghost use Rattle.table_laws.specs.Lawful.{EachRunIsLawful};
+ghost use Rattle.table_laws.specs.Operations.{EachOperationIsSound};
 
 /// Every legal completion of a run's journal is lawful, whatever the schedule and whatever the store loses. Each version
 /// is the one before with one statement's operation done; commits and files read; each commit's put wins, loses or fails
 /// at its own moment; replies say what was made, committed and read.
 pub fn each_run_is_lawful()
     ensures { EachRunIsLawful }
+{}
+
+/// The operation of each statement is sound, whatever the table's schema is.
+pub fn each_operation_is_sound()
+    ensures { EachOperationIsSound }
 {}

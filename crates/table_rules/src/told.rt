@@ -1,9 +1,9 @@
 //! Laws over the names of a table.
 ghost use Rattle.table_rules.specs.Told.{CommitsDiffer, CommitIsRead, CheckpointIsRead, OnlyCommitIsRead, OnlyCheckpointIsRead, CommitIsInLog, DataIsOutside, DataIsNoCommit, DataDiffer, DataIsGraphic, DataIsPath};
 
-/// A name tells which commit or checkpoint it is of, a data file's name is none of the log's, and it tells the
-/// statement, the part and the start of its data file. It has graphic characters of ASCII alone, and as a path it is
-/// its own name.
+/// The name of a commit or a checkpoint tells its version, a data file's name is none of the log's, and it tells the
+/// statement, the part and the start, modulo 2^48, of its data file. It has graphic characters of ASCII alone, and as a
+/// path it is its own name.
 pub fn names_are_told_apart()
     ensures commits_differ { CommitsDiffer }
     ensures commit_is_read { CommitIsRead }

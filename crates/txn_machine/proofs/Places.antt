@@ -10,10 +10,12 @@ use Rattle.edge_api.specs.Actor.{event_of}
 use Rattle.table_rules.specs.Names.{log_name}
 use Rattle.table_rules.specs.declared.log.LogName.{LogName}
 use Rattle.table_rules.specs.declared.log.LogName.TheVariants as log
-use Rattle.call_phases.specs.Clock as clock
+use Rattle.call_phases.specs.Request as request
+use Rattle.call_phases.specs.Requests.{reading_call}
 use Rattle.call_phases.specs.Machine.{Goes}
-use Rattle.call_phases.specs.declared.clock.ClockStage.{ClockStage}
-use Rattle.call_phases.specs.declared.clock.ClockStage.TheVariants as of_clock
+use Rattle.call_phases.specs.declared.called.Reading.{Reading}
+use Rattle.call_phases.specs.declared.request.RequestStage.{RequestStage}
+use Rattle.call_phases.specs.declared.request.RequestStage.TheVariants as at
 use Rattle.statement_calls.specs.Bounds.{most_calls}
 use Rattle.statement_calls.specs.Place.{place_of_name, place_of_call, place_at, IsCallAt}
 use Rattle.txn_machine.specs.declared.stage.Stage.{Stage}
@@ -41,15 +43,15 @@ call_within (Delete name) = λ puts. puts
 call_within Now = λ puts. puts
 call_within (Wait time) = λ puts. puts
 
-clock_call : (s : ClockStage) (c : Call) → clock.call_at s ≡ Some c → c ≡ Now
-clock_call (of_clock.Asking r) c is = cc
-clock_call (of_clock.Read t) c is = cc
-clock_call (of_clock.Failed f) c is = cc
+clock_call : (s : RequestStage Reading ℕ) (c : Call) → request.call_at reading_call s ≡ Some c → c ≡ Now
+clock_call (at.Asking r) c is = cc
+clock_call (at.Answered t) c is = cc
+clock_call (at.Failed f) c is = cc
 
-clock_left : (s : ClockStage) (c : Call) → clock.call_at s ≡ Some c → clock.left_at s ≡ 1
-clock_left (of_clock.Asking r) c is = refl
-clock_left (of_clock.Read t) c is = cc
-clock_left (of_clock.Failed f) c is = cc
+clock_left : (s : RequestStage Reading ℕ) (c : Call) → request.call_at reading_call s ≡ Some c → request.left_at s ≡ 1
+clock_left (at.Asking r) c is = refl
+clock_left (at.Answered t) c is = cc
+clock_left (at.Failed f) c is = cc
 
 -- by whether the phase is the first
 at_call : (first : Bool) (o : Option Call) (c : Call) → o ≡ Some c → (first ≡ true → c ≡ Now) → IsCallAt (place_at first o) c

@@ -7,8 +7,8 @@ use Rattle.op_types.specs.declared.refusal.Clash.{Clash}
 use Rattle.op_types.specs.declared.reply.Reply.{Reply}
 use Rattle.op_types.specs.declared.reply.Reply.TheVariants.{Created}
 use Rattle.call_phases.specs.Phases.{Entries}
-use Rattle.call_phases.specs.Clock as clock
-use Rattle.call_phases.specs.List as list
+use Rattle.call_phases.specs.Request as request
+use Rattle.call_phases.specs.Requests.{reading_call, prefix_call, ReadingRest, PrefixRest}
 use Rattle.call_phases.specs.GetsAt as gets
 use Rattle.call_phases.specs.Puts as puts
 use Rattle.call_phases.specs.Step.{Steps}
@@ -80,8 +80,8 @@ NextCommit s out w es = Replies out s.kept (landed_after s.read w.landed) es
 
 -- the next call
 abbrev pub call_of : Stage → Option Call
-call_of (stage.Clock s c) = clock.call_at c.stage
-call_of (stage.List s l) = list.call_at l.names.stage
+call_of (stage.Clock s c) = request.call_at reading_call c.stage
+call_of (stage.List s l) = request.call_at prefix_call l.names.stage
 call_of (stage.Load s g) = gets.call_at g.stage
 call_of (stage.Scan s g) = gets.call_at g.stage
 call_of (stage.Data s p) = puts.call_at p.stage
@@ -90,8 +90,8 @@ call_of (stage.Done f) = None
 
 -- how many answers may come: those of the phase, and those of the phases after it
 abbrev pub left_of : Stage → ℕ
-left_of (stage.Clock s c) = clock.left_at c.stage + most_after_clock
-left_of (stage.List s l) = list.left_at l.names.stage + most_after_list
+left_of (stage.Clock s c) = request.left_at c.stage + most_after_clock
+left_of (stage.List s l) = request.left_at l.names.stage + most_after_list
 left_of (stage.Load s g) = gets.left_at commits_left_of g.stage + most_after_load
 left_of (stage.Scan s g) = gets.left_at files_left_of g.stage + 0
 left_of (stage.Data s p) = puts.left_at p.stage + most_attempts
@@ -100,8 +100,8 @@ left_of (stage.Done f) = 0
 
 -- a phase stands here only while it has a call to make
 abbrev pub is_settled : Stage → Bool
-is_settled (stage.Clock s c) = is_some (clock.call_at c.stage)
-is_settled (stage.List s l) = is_some (list.call_at l.names.stage)
+is_settled (stage.Clock s c) = is_some (request.call_at reading_call c.stage)
+is_settled (stage.List s l) = is_some (request.call_at prefix_call l.names.stage)
 is_settled (stage.Load s g) = is_some (gets.call_at g.stage)
 is_settled (stage.Scan s g) = is_some (gets.call_at g.stage)
 is_settled (stage.Data s p) = is_some (puts.call_at p.stage)
@@ -110,8 +110,8 @@ is_settled (stage.Done f) = true
 
 -- its phase waits for no answer
 abbrev pub Rests : Stage → Type 0
-Rests (stage.Clock s c) = c.call ≡ clock.call_at c.stage
-Rests (stage.List s l) = l.names.call ≡ list.call_at l.names.stage
+Rests (stage.Clock s c) = c.call ≡ request.call_at reading_call c.stage
+Rests (stage.List s l) = l.names.call ≡ request.call_at prefix_call l.names.stage
 Rests (stage.Load s g) = g.call ≡ gets.call_at g.stage
 Rests (stage.Scan s g) = g.call ≡ gets.call_at g.stage
 Rests (stage.Data s p) = p.call ≡ puts.call_at p.stage
@@ -120,8 +120,8 @@ Rests (stage.Done f) = ⊥
 
 -- what the entries still to come have to be, by the outcome
 abbrev pub Rest : Stage → Entries → Option Finish → Type 0
-Rest (stage.Clock s c) es out = Steps (clock.RestAt c.stage) (ByCall s.kept) (NextClock s) es out
-Rest (stage.List s l) es out = Steps (list.RestAt l.names.stage) (ByCall s.kept) (NextList s) es out
+Rest (stage.Clock s c) es out = Steps (request.RestAt ReadingRest c.stage) (ByCall s.kept) (NextClock s) es out
+Rest (stage.List s l) es out = Steps (request.RestAt PrefixRest l.names.stage) (ByCall s.kept) (NextList s) es out
 Rest (stage.Load s g) es out = Steps (gets.RestAt wanted_commit commits_after g.stage) (ByLoad s.spare) (NextLoad s) es out
 Rest (stage.Scan s g) es out = Steps (gets.RestAt wanted_file files_after g.stage) (ByScan s.kept) (NextScan s) es out
 Rest (stage.Data s p) es out = Steps (puts.RestAt p.stage) (ByPut s.kept) (NextData s) es out

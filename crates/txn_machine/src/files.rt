@@ -1,5 +1,5 @@
 //! The data files of a select, got one after another.
-ghost use Rattle.std.specs.Prelude.{◌≡◌, ◌∷◌, ◌++◌, [], IfOk, IfErr, OnOk, IsSome};
+ghost use Rattle.std.specs.Prelude.{◌≡◌, ◌∷◌, ◌++◌, [], IfOk, IfErr, IsSome};
 ghost use Rattle.statement_calls.specs.Objects.{first_of};
 ghost use Rattle.txn_machine.specs.Readers.{after_first};
 
@@ -7,10 +7,11 @@ use crate::texts::rows_of_file;
 use call_phases::{Reader, Unread};
 use edge_api::{Body, Name};
 use op_types::ObjectFault;
-use row_base::{NoMemory, ScannedFile};
+use row_base::{Items, NoMemory, ScannedFile};
 use std::alloc::Global;
 use std::collections::VecDeque;
 use std::marker::Model;
+use std::mem;
 
 /// Paths of files, which contracts see as their list.
 #[derive(Drop)]
@@ -54,44 +55,20 @@ impl Paths {
     }
 }
 
-/// Files that were got, which contracts see as their list.
-#[derive(Drop)]
-pub struct GotFiles {
-    items: Vec<ScannedFile>,
+/// No file yet.
+pub fn no_files(alloc: Global) -> Items<ScannedFile>
+    ensures { result ≡ [] }
+{
+    Items::from_vec(Vec::new(alloc))
 }
 
-impl Model for GotFiles {
-    ghost use Rattle.std.specs.Prelude.{List};
-    ghost use Rattle.row_base.specs.declared.row.ScannedFile.{ScannedFile};
-
-    ghost Value = { List ScannedFile };
-
-    ghost view = { λ g. g.items.items };
-}
-
-impl GotFiles {
-    /// No file yet.
-    pub fn new(alloc: Global) -> GotFiles
-        ensures { result ≡ [] }
-    {
-        GotFiles {
-            items: Vec::new(alloc),
-        }
-    }
-
-    /// One more file. The error is want of memory.
-    fn push(&mut self, file: ScannedFile) -> Result<(), NoMemory>
-        ensures { OnOk result (self.new ≡ self.old ++ file ∷ []) }
-    {
-        Ok(self.items.push(file)?)
-    }
-
-    /// The files, handed over.
-    pub fn into_vec(self) -> Vec<ScannedFile>
-        ensures { result.items ≡ self }
-    {
-        self.items
-    }
+/// One more file. The error is want of memory.
+fn with_file(got: Items<ScannedFile>, file: ScannedFile) -> Result<Items<ScannedFile>, NoMemory>
+    ensures { IfOk result (λ all. all ≡ got ++ file ∷ []) }
+{
+    let mut all = got.into_vec();
+    all.push(file)?;
+    Ok(Items::from_vec(all))
 }
 
 /// The files of these paths, and those got before them with their rows.
@@ -99,7 +76,7 @@ impl GotFiles {
 pub struct Files {
     pub alloc: Global,
     pub paths: Paths,
-    pub got: GotFiles,
+    pub got: Items<ScannedFile>,
 }
 
 impl Reader for Files {
@@ -123,9 +100,11 @@ impl Reader for Files {
             unreachable!()
         };
         let path = path.into_text();
-        match self.got.push(ScannedFile { path, rows }) {
-            Ok(()) => Ok(()),
-            Err(NoMemory) => Err(Unread::NoMemory),
-        }
+        let got = mem::replace(&mut self.got, no_files(self.alloc));
+        let Ok(got) = with_file(got, ScannedFile { path, rows }) else {
+            return Err(Unread::NoMemory);
+        };
+        self.got = got;
+        Ok(())
     }
 }

@@ -21,7 +21,7 @@ mod txn;
 
 pub use commit::CommitStep;
 pub use commits::Commits;
-pub use files::{Files, GotFiles, Paths};
+pub use files::{Files, Paths};
 pub use insert::DataStep;
 pub use judge::CommitJudge;
 pub use log::ListLog;

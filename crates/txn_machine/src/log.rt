@@ -14,15 +14,16 @@ impl Phase for ListLog {
     type Fault = CallFault;
 
     ghost use Rattle.std.specs.Prelude.{◌≡◌};
-    ghost use Rattle.call_phases.specs.List.{call_at, left_at, RestAt};
+    ghost use Rattle.call_phases.specs.Request.{call_at, left_at, RestAt};
+    ghost use Rattle.call_phases.specs.Requests.{prefix_call, PrefixRest};
 
-    ghost ready = { λ p. p.names.call ≡ call_at p.names.stage };
+    ghost ready = { λ p. p.names.call ≡ call_at prefix_call p.names.stage };
 
-    ghost call = { λ p. call_at p.names.stage };
+    ghost call = { λ p. call_at prefix_call p.names.stage };
 
     ghost left = { λ p. left_at p.names.stage };
 
-    ghost rest = { λ p. RestAt p.names.stage };
+    ghost rest = { λ p. RestAt PrefixRest p.names.stage };
 
     fn next(&mut self) -> Option<Call> {
         self.names.next()

@@ -11,7 +11,7 @@ ghost use Rattle.txn_machine.specs.Readers.{kept_of};
 ghost use Rattle.txn_machine.specs.Machine.{call_of, left_of, is_settled, Rest};
 
 use crate::commits::kept_of;
-use crate::files::{GotFiles, Paths};
+use crate::files::{Paths, no_files};
 use crate::{Files, Plan, Stage, Supported};
 use call_phases::{GetFault, Gets, Ready, Step, go};
 use op_types::{ObjectFault, Refusal, Reply};
@@ -116,7 +116,7 @@ impl ScanStep {
                 let files = Files {
                     alloc: plan.alloc,
                     paths: Paths::new(paths),
-                    got: GotFiles::new(plan.alloc),
+                    got: no_files(plan.alloc),
                 };
                 let read = read.version;
                 let step = ScanStep {

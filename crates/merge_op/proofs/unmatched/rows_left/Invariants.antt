@@ -7,5 +7,5 @@ use Rattle.merge_op.proofs.unmatched.rows_left.Given as goal
 
 abbrev pub invariant-loop-row : goal.invariant-loop-row
 invariant-loop-row l =
-    (l.left ++ filter (is_left l.op.keys l.keyed) l.row-iterator ≡ filter (is_left l.op.keys l.keyed) l.op.source)
-    × (list_all (λ s. list_all (λ c. nat_lt c (length s)) l.op.keys) l.row-iterator ≡ true)
+    (l.left ++ filter (is_left l.keys l.keyed) l.row-iterator ≡ filter (is_left l.keys l.keyed) l.source)
+    × (list_all (λ s. list_all (λ c. nat_lt c (length s)) l.keys) l.row-iterator ≡ true)

@@ -13,9 +13,9 @@ pub returns-in-Ok-clause-may : goal.returns-in-Ok-clause-may
 returns-in-Ok-clause-may c es out h =
     let a = c.args in
     let s = c.go.ensures.may es out h in
-    let files : Files = record { alloc = a.plan.alloc; paths = c.new.result; got = c.new-in-Ok.result } in
+    let files : Files = record { alloc = a.plan.alloc; paths = c.new.result; got = c.no_files.result } in
     subst (λ (k : Kept). Selects a.plan.tag a.plan.limit out a.table (Some k) a.read.version es) c.kept_of.ensures
-    (then_scan a.plan.tag a.plan.limit out (Some c.kept_of.result) a.read.version c.file_count-live.result a.table files es (search rules) (search rules) (s.0, c.new-in-Ok-2.ensures.begins es s.0 s.1, s.2))
+    (then_scan a.plan.tag a.plan.limit out (Some c.kept_of.result) a.read.version c.file_count-live.result a.table files es (search rules) (search rules) (s.0, c.new-in-Ok.ensures.begins es s.0 s.1, s.2))
 
 pub returns-in-Err-clause-may : goal.returns-in-Err-clause-may
 returns-in-Err-clause-may c es out h =

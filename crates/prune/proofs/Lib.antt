@@ -1,0 +1,5 @@
+mod Sets
+mod Comparisons
+mod Trees
+mod KeyRows
+mod FileRows

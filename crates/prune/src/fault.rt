@@ -1,0 +1,36 @@
+//! Why a file has no facts.
+ghost use Rattle.std.specs.Prelude.{◌≡◌};
+ghost use Rattle.prune.specs.declared.fault.PartitionFault.TheVariants as faults;
+
+use row_base::{NoMemory, Text};
+use schema_text::SchemaTextFault;
+
+/// Why what the log says of a file could not be taken as facts.
+#[derive(Debug, Drop)]
+pub enum PartitionFault {
+    /// The value of the partition column of this name has no reading.
+    Value { name: Text },
+    /// Memory ran out.
+    NoMemory,
+}
+
+impl From<NoMemory> for PartitionFault {
+    ghost from_gives = { λ _ e. e ≡ faults.NoMemory };
+
+    fn from(_refused: NoMemory) -> PartitionFault {
+        PartitionFault::NoMemory
+    }
+}
+
+impl From<SchemaTextFault> for PartitionFault {
+    ghost use Rattle.prune.specs.Known.{fault_of};
+
+    ghost from_gives = { λ s e. e ≡ fault_of s };
+
+    fn from(fault: SchemaTextFault) -> PartitionFault {
+        match fault {
+            SchemaTextFault::Value { name } => PartitionFault::Value { name },
+            _ => PartitionFault::NoMemory,
+        }
+    }
+}
