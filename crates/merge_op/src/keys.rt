@@ -123,7 +123,6 @@ fn under_key<'a>(
 }
 
 /// The first row of the source that matches a row, and whether there is another one.
-#[tactic(auto, using(crate::proofs::Keyings::match_found, crate::proofs::Keyings::match_wide))]
 pub(crate) fn match_of<'a>(
     alloc: Global,
     op: &MergeOp,

@@ -93,7 +93,6 @@ fn rows_left(
 }
 
 /// The rows of a source that match no row of these files.
-#[tactic(auto, using(crate::proofs::Keyings::left_is))]
 pub(crate) fn unmatched_rows(
     alloc: Global,
     keys: &[u32],
