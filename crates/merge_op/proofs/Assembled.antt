@@ -1,6 +1,6 @@
 -- A merge over files is the merge of the bag of their rows.
-use Rattle.std.proofs.Common.{◌≡◌, ℕ, ◌+◌, Bool, true, false, not, List, [], ◌∷◌, ◌++◌, refl, sym, ap, ◌∙◌, subst, arith, map}
-use Rattle.std.specs.Prelude.{Option, Some, None, Result, Ok, Err, filter}
+use Rattle.std.proofs.Common.{◌≡◌, ℕ, not, List, ◌++◌, refl, sym, ap, ◌∙◌, subst, arith, map}
+use Rattle.std.specs.Prelude.{Option, Some, None, Result, Ok, filter}
 use Rattle.std.specs.Result.{result_map_both}
 use Rattle.row_base.specs.Bags.{count_of, SameRows, others}
 use Rattle.row_base.specs.Faults.{◌>>=◌}

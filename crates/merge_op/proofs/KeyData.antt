@@ -1,7 +1,6 @@
 -- A row matches a source row where it has no null in its key and their keys are equal.
-use Rattle.std.proofs.Common.{◌≡◌, ℕ, Bool, true, false, cond, not, ◌&&◌, ◌||◌, List, [], ◌∷◌, refl, sym, ap, ◌∙◌, inl, inr}
+use Rattle.std.proofs.Common.{◌≡◌, ℕ, Bool, true, false, not, ◌&&◌, ◌||◌, List, [], ◌∷◌, refl, sym, ap, ◌∙◌, inl, inr}
 use Rattle.std.specs.Prelude.{if◌then◌else◌}
-use Rattle.std.specs.List.{list_any}
 use Rattle.std.specs.declared.cmp.Ordering.{Ordering}
 use Rattle.std.specs.declared.cmp.Ordering.TheVariants.{Less, Equal, Greater}
 use Rattle.std.specs.Ordering.{is_eq, ordering_then, ordering_reverse}
@@ -12,7 +11,7 @@ use Rattle.row_base.specs.declared.row.Datum.{Datum}
 use Rattle.row_base.specs.declared.row.Datum.TheVariants.{Null, Long, Integer, Boolean, Text, Date}
 use Rattle.predicates.specs.Truths.{cell, is_null, compared, certain}
 use Rattle.predicates.specs.declared.pred.Op.TheVariants as op
-use Rattle.predicates.specs.declared.truth.Truth.TheVariants.{Yes, No, Unknown}
+use Rattle.predicates.specs.declared.truth.Truth.TheVariants.{Unknown}
 use Rattle.dml_ops.specs.Changes.{is_yes}
 use Rattle.merge_op.specs.Found.{has_key}
 use Rattle.merge_op.specs.Matches.{is_match, key_data, has_null}

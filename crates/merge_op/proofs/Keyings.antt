@@ -1,6 +1,6 @@
 -- The map of the source's rows by their keys: how it is filled, what is found in it, and what is left in it.
 use Rattle.std.proofs.Common.{◌≡◌, ℕ, Bool, true, false, cond, not, ◌&&◌, ◌||◌, ◌==◌, List, [], ◌∷◌, ◌++◌, length, refl, sym, ap, ◌∙◌, subst, inl, inr, append_assoc}
-use Rattle.std.specs.Prelude.{Option, Some, None, IfSome, if◌then◌else◌, filter, option_map, is_some, nat_lt}
+use Rattle.std.specs.Prelude.{Option, Some, None, IfSome, if◌then◌else◌, filter, is_some}
 use Rattle.std.specs.BTreeMap.{BTreeMap, get}
 use Rattle.std.specs.List.{list_any, list_all}
 use Rattle.std.proofs.lemmas.Bool.{cases_Bool, eqb-true}

@@ -1,8 +1,7 @@
 -- Rows outside the scope of a merge, and files that no clause changes, stay.
-use Rattle.std.proofs.Common.{◌≡◌, ℕ, ◌+◌, Bool, true, false, cond, not, ◌&&◌, ◌||◌, List, [], ◌∷◌, ◌++◌, refl, sym, ap, ◌∙◌, subst, arith, append_assoc}
+use Rattle.std.proofs.Common.{◌≡◌, ℕ, ◌+◌, Bool, true, false, cond, not, ◌&&◌, ◌||◌, List, [], ◌∷◌, ◌++◌, refl, sym, ap, ◌∙◌, arith, append_assoc}
 use Rattle.std.specs.Prelude.{Option, Some, None, Ok, if◌then◌else◌, filter, is_some, option_map, unwrap_or}
 use Rattle.std.specs.List.{list_any}
-use Rattle.row_base.specs.RowOrder.{row_eq}
 use Rattle.row_base.specs.Bags.{count_of, others}
 use Rattle.row_base.specs.Schema.{TableSchema}
 use Rattle.row_base.specs.declared.row.Datum.{Datum}
@@ -12,11 +11,10 @@ use Rattle.op_types.specs.declared.bound.BySource.{BySource}
 use Rattle.op_types.specs.declared.bound.Change.{Change}
 use Rattle.op_types.specs.declared.bound.MergeSpec.{MergeSpec}
 use Rattle.dml_ops.specs.declared.fault.WrongRow.{WrongRow}
-use Rattle.dml_ops.specs.Changes.{passes}
 use Rattle.dml_ops.specs.Outcomes.{Outcome, given, wrong_of, lesser, lesser_by, rows_of, least_of}
 use Rattle.dml_ops.proofs.Lesser.{lesser_none}
 use Rattle.dml_ops.proofs.Bagged.{rows_of-append, least_of-append}
-use Rattle.merge_op.specs.Matches.{is_match, matches, unmatched}
+use Rattle.merge_op.specs.Matches.{is_match, unmatched}
 use Rattle.merge_op.specs.Merges.{first_of, match_of, change_by, change_by_source, change_of, source_of, changed_to, merge_step, is_another, is_ambiguous, itself, least_where, rows_in, is_touched, added}
 use Rattle.merge_op.specs.Operations.{passes_by_source, in_scope}
 use Rattle.merge_op.proofs.Least.{itself_none}

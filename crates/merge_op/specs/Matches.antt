@@ -1,5 +1,5 @@
 -- Which rows of a table match which rows of a source.
-use Rattle.std.specs.Prelude.{ℕ, Bool, true, false, ◌&&◌, ◌||◌, not, List, [], ◌∷◌, map, filter, Option, Some, None}
+use Rattle.std.specs.Prelude.{ℕ, Bool, not, List, map, filter}
 use Rattle.std.specs.List.{list_all, list_any}
 use Rattle.row_base.specs.declared.row.Datum.{Datum}
 use Rattle.predicates.specs.Truths.{cell, is_null, compared}

@@ -1,5 +1,5 @@
 -- A merge as a function on the bag of a table's rows, which knows no file.
-use Rattle.std.specs.Prelude.{◌≡◌, ℕ, Bool, true, false, ◌||◌, List, [], ◌++◌, filter, not, Option, Some, None, Result, Ok, Err}
+use Rattle.std.specs.Prelude.{◌≡◌, ℕ, Bool, false, ◌||◌, List, ◌++◌, filter, not, Option, Some, None, Result, Ok, Err}
 use Rattle.std.specs.List.{list_any}
 use Rattle.row_base.specs.Bags.{others, SameRows}
 use Rattle.row_base.specs.Faults.{◌>>=◌}

@@ -1,5 +1,5 @@
 -- What is found under each key, once the rows that are left are there too; their columns are there.
-use Rattle.std.proofs.Common.{◌≡◌, ℕ, List, true, length, nat_lt}
+use Rattle.std.proofs.Common.{◌≡◌, List, true, length, nat_lt}
 use Rattle.std.specs.Prelude.{filter}
 use Rattle.std.specs.BTreeMap.{get}
 use Rattle.std.specs.List.{list_all}

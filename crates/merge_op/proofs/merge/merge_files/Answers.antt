@@ -1,4 +1,4 @@
-use Rattle.std.proofs.Common.{◌≡◌, ◌∙◌, ap, List, length, nat_lt}
+use Rattle.std.proofs.Common.{◌∙◌, ap, List, length, nat_lt}
 use Rattle.std.specs.List.{list_all}
 use Rattle.row_base.specs.declared.row.ScannedFile.{ScannedFile}
 use Rattle.op_types.specs.Bound.{is_merge_bound}
