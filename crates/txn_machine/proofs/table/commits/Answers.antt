@@ -7,6 +7,7 @@ use Rattle.statement_calls.specs.Outcome.{Ends}
 use Rattle.statement_calls.specs.Answered.{names_of, AtCommit}
 use Rattle.txn_machine.specs.Machine.{GoesOn}
 use Rattle.txn_machine.proofs.Chain.{no_commit}
+use Rattle.txn_machine.proofs.Stages.{ended_goes}
 use Rattle.txn_machine.proofs.table.commits.Goals as goal
 
 pub returns-in-Ok : goal.returns-in-Ok
@@ -18,12 +19,6 @@ returns-in-Ok c =
 pub returns-in-Err : goal.returns-in-Err
 returns-in-Err c =
     let a = c.args in
-    record {
-      ready = search rules;
-      settled = search rules;
-      left = search rules;
-      some = search rules;
-      may = λ es out h.
-          let ends : Ends out a.kept refusal.NoMemory es = search rules in
-          no_commit a.plan.tag a.plan.limit out a.kept a.start 0 _ (λ l. Created) es a.plan.some ends;
-    }
+    ended_goes _ _ _ _ c.refused.ensures (λ es out h.
+    let ends : Ends out a.kept refusal.NoMemory es = search rules in
+    no_commit a.plan.tag a.plan.limit out a.kept a.start 0 _ (λ l. Created) es a.plan.some ends)

@@ -7,6 +7,7 @@ use Rattle.statement_calls.specs.Outcome.{Ends}
 use Rattle.txn_machine.specs.declared.files.Files.{Files}
 use Rattle.txn_machine.specs.Readers.{kept_of}
 use Rattle.txn_machine.proofs.Chain.{then_scan, no_scan}
+use Rattle.txn_machine.proofs.Stages.{ended_goes}
 use Rattle.txn_machine.proofs.select.ScanStep.begin.Goals as goal
 
 pub returns-in-Ok : goal.returns-in-Ok
@@ -29,12 +30,6 @@ pub returns-in-Err : goal.returns-in-Err
 returns-in-Err c =
     let a = c.args in
     let kept = kept_of a.spare a.read.version a.table in
-    record {
-      ready = search rules;
-      settled = search rules;
-      left = search rules;
-      some = search rules;
-      may = λ es out h.
-          let ends : Ends out (Some kept) refusal.NoMemory es = search rules in
-          no_scan a.plan.tag a.plan.limit out (Some kept) a.read.version a.table es ends;
-    }
+    ended_goes _ _ _ _ c.refused.ensures (λ es out h.
+    let ends : Ends out (Some kept) refusal.NoMemory es = search rules in
+    no_scan a.plan.tag a.plan.limit out (Some kept) a.read.version a.table es ends)
