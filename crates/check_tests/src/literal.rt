@@ -29,7 +29,7 @@ fn refused(row: &[Datum], fault: RowFault) -> Ending {
 }
 
 /// How two rows end.
-fn ending(alloc: Global, first: &[Datum], second: &[Datum]) -> Result<Ending, Unmade> {
+fn end_of(alloc: Global, first: &[Datum], second: &[Datum]) -> Result<Ending, Unmade> {
     let schema = schema(alloc)?;
     let mut rows = Rows::new(alloc);
     rows.push_copy(first)?;
@@ -44,7 +44,7 @@ fn ending(alloc: Global, first: &[Datum], second: &[Datum]) -> Result<Ending, Un
 /// How a row with this first, third and fourth datum ends behind one that fits.
 fn second(alloc: Global, id: Datum, n: Datum, s: Datum) -> Result<Ending, Unmade> {
     let fits = [Datum::Long(1), Datum::Long(1), Datum::Long(1), Datum::Null];
-    ending(alloc, &fits, &[id, Datum::Null, n, s])
+    end_of(alloc, &fits, &[id, Datum::Null, n, s])
 }
 
 #[test]
@@ -75,7 +75,7 @@ fn the_first_wrong_datum_is_named(rt: HostRuntime) -> Result<(), Fail> {
 #[test]
 fn the_first_wrong_row_is_named(rt: HostRuntime) -> Result<(), Fail> {
     let alloc = rt.alloc();
-    let count = ending(
+    let count = end_of(
         alloc,
         &[Datum::Long(7)],
         &[Datum::Null, Datum::Null, Datum::Null, Datum::Null],
@@ -87,7 +87,7 @@ fn the_first_wrong_row_is_named(rt: HostRuntime) -> Result<(), Fail> {
         Datum::Null,
         Datum::Null,
     ];
-    let behind = ending(alloc, &kind, &[Datum::Long(9)])?;
+    let behind = end_of(alloc, &kind, &[Datum::Long(9)])?;
     assert!(rt; behind == Ending::Row(8, RowFault::Kind { column: 1 }));
     Ok(())
 }

@@ -41,7 +41,7 @@ fn is_match(row: &Pair, source: &Pair) -> bool {
 }
 
 /// What becomes of a row, and what `v` is set to.
-fn becomes(clauses: Clauses, source: &[Pair], row: &Pair) -> (Becomes, Option<i64>) {
+fn outcome_of(clauses: Clauses, source: &[Pair], row: &Pair) -> (Becomes, Option<i64>) {
     for other in source {
         if is_match(row, other) {
             return (clauses.matched, other.1);
@@ -55,7 +55,7 @@ fn becomes(clauses: Clauses, source: &[Pair], row: &Pair) -> (Becomes, Option<i6
 
 fn is_changed(clauses: Clauses, source: &[Pair], rows: &[Pair]) -> bool {
     for row in rows {
-        if becomes(clauses, source, row).0 != Becomes::Itself {
+        if outcome_of(clauses, source, row).0 != Becomes::Itself {
             return true;
         }
     }
@@ -71,7 +71,7 @@ fn put_file(
 ) -> Result<(), NoMemory> {
     if is_changed(clauses, source, rows) {
         for row in rows {
-            match becomes(clauses, source, row) {
+            match outcome_of(clauses, source, row) {
                 (Becomes::Itself, _) => out.push(*row)?,
                 (Becomes::Set, v) => out.push((row.0, v))?,
                 (Becomes::Nothing, _) => {}
@@ -130,7 +130,7 @@ fn removed(clauses: Clauses, source: &[Pair], first: &[Pair], second: &[Pair]) -
     }
 }
 
-fn expected(
+fn expected_merge(
     alloc: Global,
     clauses: Clauses,
     source: &[Pair],
@@ -191,7 +191,7 @@ fn agrees(
     second: &[Pair],
 ) -> bool {
     let op = op_of(alloc, clauses, source);
-    match expected(alloc, clauses, source, first, second) {
+    match expected_merge(alloc, clauses, source, first, second) {
         Ok(
             Expected {
                 ambiguous: Some(row),
