@@ -101,6 +101,26 @@ not_killed : (limit actor : ℕ) (sts : List Statement) (part : Entries) (rs : L
 not_killed limit actor sts part rs (true, stops, h) = absurd stops
 not_killed limit actor sts part rs (false, stops, h) = h
 
+earlier_weaker : (k : ℕ) (es : Entries) → laws.NoneEarlier (k + 1) es → laws.NoneEarlier k es
+earlier_weaker k [] h = tt
+earlier_weaker k (e ∷ es) h = (let le = h.0 in omega (arith, le), earlier_weaker k es h.1)
+
+-- one statement's entries, before those of later ones
+rises_join : (actor k : ℕ) (own rest : Entries) → AllTagged (record { actor = actor; statement = k }) own → laws.NoneEarlier (k + 1) rest → laws.Rises rest → laws.NoneEarlier k (own ++ rest) × laws.Rises (own ++ rest)
+rises_join actor k [] rest all later rises = (earlier_weaker k rest later, rises)
+rises_join actor k (e ∷ own) rest all later rises =
+    let more = rises_join actor k own rest all.1 later rises in
+    let is : k ≡ e.tag.statement = sym (ap (λ (t : Tag). t.statement) all.0) in
+    ((omega (arith, is), more.0), (subst (λ (n : ℕ). laws.NoneEarlier n (own ++ rest)) is more.0, more.1))
+
+rises_from : (actor limit k : ℕ) (sts : List Statement) (part : Entries) (rs : List Reply) → AllAnswered false (plans_from actor limit k sts) part rs → laws.NoneEarlier k part × laws.Rises part
+rises_from actor limit k [] part rs h = subst (λ (l : Entries). laws.NoneEarlier k l × laws.Rises l) (sym h.0) (tt, tt)
+rises_from actor limit k (st ∷ sts) part [] h = absurd h
+rises_from actor limit k (st ∷ sts) part (r ∷ rs) (inl x) = absurd cc
+rises_from actor limit k (st ∷ sts) part (r ∷ rs) (inr h) =
+    let rest = rises_from actor limit (k + 1) sts h.1 rs h.5 in
+    subst (λ (l : Entries). laws.NoneEarlier k l × laws.Rises l) (sym h.2) (rises_join actor k h.0 h.1 h.3 rest.0 rest.1)
+
 module _ (limit : ℕ) (scripts : List (List Statement)) (part : Entries) (replies : List (List Reply)) (all : AllReplied limit scripts part replies) where
   by_actor : (t : Tag) (o : Option (List Statement)) → slice_get scripts t.actor ≡ o → (g : Option (List Reply)) → slice_get replies t.actor ≡ g
       → HasOutcome limit t (option_and_then (λ sts. counted sts t.statement) o) (own t (of_actor t.actor part)) (option_and_then (λ rs. counted rs t.statement) g)
@@ -127,6 +147,21 @@ module _ (limit : ℕ) (scripts : List (List Statement)) (part : Entries) (repli
   each_answered t =
       subst (λ (l : Entries). HasOutcome limit t (statement_of scripts t) l (reply_of replies t)) (sym (own_among t part))
       (by_actor t (slice_get scripts t.actor) refl (slice_get replies t.actor) refl)
+
+  -- an actor's entries come statement by statement
+  pub rises_at : (actor : ℕ) → laws.Rises (of_actor actor part)
+  rises_at actor = by (slice_get scripts actor) refl (slice_get replies actor) refl
+    where
+      no_some : (rs : List (List Reply)) (k : ℕ) → k < length rs → slice_get rs k ≡ None → ⊥
+      no_some rs k lt none = let there = item_of rs k lt in none_some there.0 (sym none ∙ there.1)
+        where
+          none_some : (x : List Reply) → None ≡ Some x → ⊥
+          none_some x e = cc
+
+      by : (o : Option (List Statement)) → slice_get scripts actor ≡ o → (g : Option (List Reply)) → slice_get replies actor ≡ g → laws.Rises (of_actor actor part)
+      by None at g to = subst laws.Rises (sym (all.none actor at)) tt
+      by (Some sts) at None to = let lt = slice_get_within scripts actor sts at in let long = all.long in absurd (no_some replies actor (omega (arith, lt, long)) to)
+      by (Some sts) at (Some rs) to = (rises_from actor limit 1 sts (of_actor actor part) rs (not_killed limit actor sts (of_actor actor part) rs (all.each actor sts rs at to))).1
 
 -- where a tag's statement stands
 record Found (scripts : List (List Statement)) (t : Tag) (st : Statement) : Type 0 where
@@ -216,5 +251,5 @@ is_serial lawful back p before after replies small few short plain runs is_befor
     let f = found scripts t (Insert rows) h in
     back rows (long_rows rows (plain_of p.table p.sessions t.actor f.place f.sts (Insert rows) plain f.at f.there)) in
     let run : laws.IsRun p.limit (statement_of scripts) (λ t. (answered t).0) (entries_of moments) =
-    record { answered = λ t. (None, inl refl, (answered t).1); limited = omega (arith, small); tags = tags; faithful = faithful } in
+    record { answered = λ t. (None, inl refl, (answered t).1); limited = omega (arith, small); tags = tags; faithful = faithful; in_order = λ actor. subst (λ (l : Entries). laws.Rises (of_actor actor l)) (part_is ∙ sym are) (rises_at p.limit scripts runs.0 replies runs.2 actor) } in
     lawful_by lawful p.limit (statement_of scripts) (λ t. (answered t).0) (reply_of replies) moments legal run (λ t. (answered t).2)
