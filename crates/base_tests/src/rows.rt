@@ -2,7 +2,7 @@
 use row_base::numbers::{are_digits, read_decimal, read_long, read_natural};
 use row_base::{
     Column, Datum, Items, Kind, NoMemory, Row, RowFault, RowSlice, Rows, ScannedFile, Schema,
-    SchemaFault, Text, cmp_rows, copy_columns, copy_texts, dates_give_back, read_date,
+    SchemaFault, Text, Unsettled, cmp_rows, copy_columns, copy_texts, dates_give_back, read_date,
     row_order_is_total, rows_are_counted, sorted, write_date,
 };
 use std::alloc::Global;
@@ -13,6 +13,24 @@ use std::test::Fail;
 /// Passes for a type that may be shared between threads.
 fn may_cross<T: Send + Sync>(_value: &T) {}
 
+/// A column's name, its kind, and whether it may be null.
+type Told = (&'static str, Kind, bool);
+
+/// `k long not null, p string, n integer`.
+const THREE: [Told; 3] = [
+    ("k", Kind::Long, false),
+    ("p", Kind::String, true),
+    ("n", Kind::Integer, true),
+];
+
+/// The same, and `p date`.
+const P_TWICE: [Told; 4] = [
+    ("k", Kind::Long, false),
+    ("p", Kind::String, true),
+    ("n", Kind::Integer, true),
+    ("p", Kind::Date, true),
+];
+
 fn column(alloc: Global, name: &str, kind: Kind, nullable: bool) -> Result<Column, NoMemory> {
     Ok(Column {
         name: Text::make(alloc, name)?,
@@ -21,177 +39,288 @@ fn column(alloc: Global, name: &str, kind: Kind, nullable: bool) -> Result<Colum
     })
 }
 
-/// `k long not null, p string, n integer`.
-fn three_columns(alloc: Global) -> Result<Vec<Column>, NoMemory> {
+fn columns_of(alloc: Global, told: &[Told]) -> Result<Vec<Column>, NoMemory> {
     let mut columns = Vec::new(alloc);
-    columns.push(column(alloc, "k", Kind::Long, false)?)?;
-    columns.push(column(alloc, "p", Kind::String, true)?)?;
-    columns.push(column(alloc, "n", Kind::Integer, true)?)?;
+    for (name, kind, nullable) in told {
+        columns.push(column(alloc, name, *kind, *nullable)?)?;
+    }
     Ok(columns)
 }
 
-fn row(alloc: Global, first: Datum, second: Datum, third: Datum) -> Result<Row, NoMemory> {
+/// The schema of these columns, or the want of memory where they make none.
+fn schema_with(columns: Vec<Column>, partition: Vec<u32>) -> Result<Schema, NoMemory> {
+    Schema::make(columns, partition).map_err(|_| NoMemory)
+}
+
+/// The schema of the three columns, partitioned by these places.
+fn schema_of(alloc: Global, partition: &[u32]) -> Result<Schema, NoMemory> {
+    let columns = columns_of(alloc, &THREE)?;
+    let partition = partition.to_vec(alloc)?;
+    schema_with(columns, partition)
+}
+
+/// A datum to be made.
+#[derive(Clone, Copy)]
+enum Plain {
+    Null,
+    Boolean(bool),
+    Integer(i32),
+    Long(i64),
+    Date(i32),
+    Text(&'static str),
+}
+
+fn datum(alloc: Global, plain: Plain) -> Result<Datum, NoMemory> {
+    match plain {
+        Plain::Null => Ok(Datum::Null),
+        Plain::Boolean(it) => Ok(Datum::Boolean(it)),
+        Plain::Integer(n) => Ok(Datum::Integer(n)),
+        Plain::Long(n) => Ok(Datum::Long(n)),
+        Plain::Date(day) => Ok(Datum::Date(day)),
+        Plain::Text(text) => Ok(Datum::Text(Text::make(alloc, text)?)),
+    }
+}
+
+fn data(alloc: Global, plain: &[Plain]) -> Result<Vec<Datum>, NoMemory> {
     let mut values = Vec::new(alloc);
-    values.push(first)?;
-    values.push(second)?;
-    values.push(third)?;
-    Ok(Row::make(values))
+    for it in plain {
+        values.push(datum(alloc, *it)?)?;
+    }
+    Ok(values)
+}
+
+fn row(alloc: Global, plain: &[Plain]) -> Result<Row, NoMemory> {
+    Ok(Row::make(data(alloc, plain)?))
 }
 
 #[test]
-fn texts_are_kept_shared_and_ordered(rt: HostRuntime) -> Result<(), Fail> {
+fn texts_are_kept_and_ordered(rt: HostRuntime) -> Result<(), Fail> {
     let text = Text::from_string(String::from_str(rt.alloc(), "b")?)?;
     may_cross(&text);
     let copy = text.copy()?;
-    assert_eq!(rt; copy.as_str(), "b");
+    assert!(rt; copy.as_str() == "b" && copy.as_bytes() == b"b".as_slice());
     assert!(rt; copy == text);
     assert!(rt; Text::make(rt.alloc(), "a")? < text);
-    let mut sizes = BTreeMap::new(rt.alloc());
-    sizes.insert(copy, 7u64)?;
-    assert_eq!(rt; sizes.get(&text).copied(), Some(7));
-    let mut texts = Vec::new(rt.alloc());
-    texts.push(text)?;
-    let list = copy_texts(rt.alloc(), texts.as_slice())?;
-    assert_eq!(rt; list.as_slice()[0].as_bytes(), b"b".as_slice());
-    assert_eq!(rt; list.into_vec().len(), 1);
     Ok(())
 }
+
+#[test]
+fn texts_are_keys(rt: HostRuntime) -> Result<(), Fail> {
+    let text = Text::make(rt.alloc(), "b")?;
+    let mut sizes = BTreeMap::new(rt.alloc());
+    sizes.insert(text.copy()?, 7u64)?;
+    assert!(rt; sizes.get(&text).copied() == Some(7));
+    Ok(())
+}
+
+/// A copy of the list of this text alone.
+fn copied_texts(alloc: Global, text: &str) -> Result<Items<Text>, NoMemory> {
+    let texts = [Text::make(alloc, text)?];
+    copy_texts(alloc, &texts)
+}
+
+#[test]
+fn lists_of_texts_are_copied(rt: HostRuntime) -> Result<(), Fail> {
+    let list = copied_texts(rt.alloc(), "b")?.into_vec();
+    assert!(rt; list.len() == 1);
+    assert!(rt; list.first().map(|text| text.as_str()) == Some("b"));
+    Ok(())
+}
+
+/// Whether this is why columns and places make no schema.
+fn has_fault(
+    alloc: Global,
+    told: &[Told],
+    partition: &[u32],
+    want: SchemaFault,
+) -> Result<bool, NoMemory> {
+    let columns = columns_of(alloc, told)?;
+    let partition = partition.to_vec(alloc)?;
+    Ok(Schema::make(columns, partition).err() == Some(want))
+}
+
+/// Columns that can't partition the three: past them, named before, and without one that is left for data.
+const BAD_PLACES: [(&[u32], u32); 3] = [(&[1, 3], 3), (&[1, 1], 1), (&[2, 0, 1], 1)];
 
 #[test]
 fn schemas_name_their_first_fault(rt: HostRuntime) -> Result<(), Fail> {
     let alloc = rt.alloc();
-    for (partition, want) in [
-        ([1, 3], SchemaFault::Partition { place: 3 }),
-        ([1, 1], SchemaFault::Partition { place: 1 }),
-    ] {
-        let places = partition.to_vec(alloc)?;
-        let made = Schema::make(three_columns(alloc)?, places);
-        assert_eq!(rt; made.err(), Some(want));
+    for (partition, place) in BAD_PLACES {
+        let want = SchemaFault::Partition { place };
+        assert!(rt; has_fault(alloc, &THREE, partition, want)?);
     }
-    let all = Schema::make(three_columns(alloc)?, [2, 0, 1].to_vec(alloc)?);
-    assert_eq!(rt; all.err(), Some(SchemaFault::Partition { place: 1 }));
-    let none = Schema::make(Vec::new(alloc), Vec::new(alloc));
-    assert_eq!(rt; none.err(), Some(SchemaFault::Columns));
-    let mut columns = three_columns(alloc)?;
-    columns.push(column(alloc, "p", Kind::Date, true)?)?;
-    let twice = Schema::make(columns, Vec::new(alloc));
-    assert_eq!(rt; twice.err(), Some(SchemaFault::Twice { column: 3 }));
+    assert!(rt; has_fault(alloc, &[], &[], SchemaFault::Columns)?);
+    assert!(rt; has_fault(alloc, &P_TWICE, &[], SchemaFault::Twice { column: 3 })?);
     Ok(())
+}
+
+/// A copy of the schema of copied columns, partitioned by `p`.
+fn copied_schema(alloc: Global) -> Result<Schema, NoMemory> {
+    let columns = Items::from_vec(columns_of(alloc, &THREE)?);
+    let columns = copy_columns(alloc, columns.as_slice())?.into_vec();
+    let partition = [1].to_vec(alloc)?;
+    schema_with(columns, partition)?.copy(alloc)
+}
+
+/// The place of the column of a name.
+fn place_in(alloc: Global, schema: &Schema, name: &str) -> Option<u32> {
+    let name = Text::make(alloc, name).ok()?;
+    schema.place_of(&name)
 }
 
 #[test]
 fn schemas_are_read_and_copied(rt: HostRuntime) -> Result<(), Fail> {
-    let alloc = rt.alloc();
-    let columns = Items::from_vec(three_columns(alloc)?);
-    let columns = copy_columns(alloc, columns.as_slice())?;
-    let made = Schema::make(columns.into_vec(), [1].to_vec(alloc)?)?;
-    let schema = made.copy(alloc)?;
+    let schema = copied_schema(rt.alloc())?;
     may_cross(&schema);
-    assert_eq!(rt; schema.columns().len(), 3);
-    assert_eq!(rt; schema.partition(), [1].as_slice());
+    assert!(rt; schema.columns().len() == 3);
+    assert!(rt; schema.partition() == [1].as_slice());
     assert!(rt; schema.is_partition(1));
-    assert_eq!(rt; schema.place_of(&Text::make(alloc, "n")?), Some(2));
-    assert_eq!(rt; schema.into_parts().1.len(), 1);
+    assert!(rt; place_in(rt.alloc(), &schema, "n") == Some(2));
+    assert!(rt; schema.into_parts().1.len() == 1);
     Ok(())
+}
+
+/// Rows beside the three columns, of which `p` partitions.
+const FITTING: [(&[Plain], Result<(), RowFault>); 5] = [
+    (&[], Err(RowFault::Count)),
+    (&[Plain::Long(1), Plain::Null, Plain::Integer(2)], Ok(())),
+    (
+        &[Plain::Long(1), Plain::Date(0), Plain::Long(2)],
+        Err(RowFault::Kind { column: 1 }),
+    ),
+    (
+        &[Plain::Null, Plain::Date(0), Plain::Null],
+        Err(RowFault::Null { column: 0 }),
+    ),
+    (
+        &[Plain::Long(1), Plain::Text(""), Plain::Null],
+        Err(RowFault::EmptyPartition { column: 1 }),
+    ),
+];
+
+/// Whether this is how a row fits.
+fn fits_so(alloc: Global, plain: &[Plain], want: Result<(), RowFault>) -> Result<bool, NoMemory> {
+    let row = row(alloc, plain)?;
+    let schema = schema_of(alloc, &[1])?;
+    Ok(schema.fits(row.as_slice()) == want)
 }
 
 #[test]
 fn rows_fit_or_the_first_wrong_column_is_named(rt: HostRuntime) -> Result<(), Fail> {
-    let alloc = rt.alloc();
-    let schema = Schema::make(three_columns(alloc)?, [1].to_vec(alloc)?)?;
-    let short = Row::make(Vec::new(alloc));
-    assert_eq!(rt; schema.fits(short.as_slice()), Err(RowFault::Count));
-    let good = row(alloc, Datum::Long(1), Datum::Null, Datum::Integer(2))?;
-    assert_eq!(rt; schema.fits(good.as_slice()), Ok(()));
-    let kind = row(alloc, Datum::Long(1), Datum::Date(0), Datum::Long(2))?;
-    assert_eq!(rt;
-        schema.fits(kind.as_slice()),
-        Err(RowFault::Kind { column: 1 })
-    );
-    let null = row(alloc, Datum::Null, Datum::Date(0), Datum::Null)?;
-    assert_eq!(rt;
-        schema.fits(null.as_slice()),
-        Err(RowFault::Null { column: 0 })
-    );
-    let text = Datum::Text(Text::make(alloc, "")?);
-    let empty = row(alloc, Datum::Long(1), text, Datum::Null)?;
-    assert_eq!(rt;
-        schema.fits(empty.as_slice()),
-        Err(RowFault::EmptyPartition { column: 1 })
-    );
+    for (plain, want) in FITTING {
+        assert!(rt; fits_so(rt.alloc(), plain, want)?);
+    }
     Ok(())
+}
+
+/// Whether the settled row is this one.
+fn is_row(settled: Result<Row, Unsettled>, want: &Row) -> bool {
+    match settled {
+        Ok(row) => row == *want,
+        Err(_) => false,
+    }
+}
+
+/// Whether the row came back as it was, with this fault.
+fn is_back(settled: Result<Row, Unsettled>, came: &Row, fault: RowFault) -> bool {
+    match settled {
+        Ok(_) => false,
+        Err(unsettled) => unsettled.fault == fault && unsettled.row == *came,
+    }
+}
+
+/// Whether a row settles to the other.
+fn settles(alloc: Global, plain: &[Plain], want: &[Plain]) -> Result<bool, NoMemory> {
+    let want = row(alloc, want)?;
+    let schema = schema_of(alloc, &[])?;
+    let row = row(alloc, plain)?;
+    Ok(is_row(schema.settle(row), &want))
+}
+
+/// Whether a row comes back with this fault.
+fn comes_back(alloc: Global, plain: &[Plain], fault: RowFault) -> Result<bool, NoMemory> {
+    let row = row(alloc, plain)?;
+    let came = row.copy(alloc)?;
+    let schema = schema_of(alloc, &[])?;
+    Ok(is_back(schema.settle(row), &came, fault))
 }
 
 #[test]
 fn longs_settle_to_integers(rt: HostRuntime) -> Result<(), Fail> {
     let alloc = rt.alloc();
-    let schema = Schema::make(three_columns(alloc)?, Vec::new(alloc))?;
-    let small = row(
-        alloc,
-        Datum::Long(5),
-        Datum::Null,
-        Datum::Long(-2_147_483_648),
-    )?;
-    let want = row(
-        alloc,
-        Datum::Long(5),
-        Datum::Null,
-        Datum::Integer(-2_147_483_648),
-    )?;
-    match schema.settle(small) {
-        Ok(settled) => assert!(rt; settled == want),
-        Err(_) => assert!(rt; false),
-    }
-    let large = row(
-        alloc,
-        Datum::Long(5),
-        Datum::Null,
-        Datum::Long(2_147_483_648),
-    )?;
-    let came = large.copy(alloc)?;
-    match schema.settle(large) {
-        Ok(_) => assert!(rt; false),
-        Err(unsettled) => {
-            assert_eq!(rt; unsettled.fault, RowFault::Kind { column: 2 });
-            assert!(rt; unsettled.row == came);
-        }
+    let small = [Plain::Long(5), Plain::Null, Plain::Long(-2_147_483_648)];
+    let want = [Plain::Long(5), Plain::Null, Plain::Integer(-2_147_483_648)];
+    assert!(rt; settles(alloc, &small, &want)?);
+    let large = [Plain::Long(5), Plain::Null, Plain::Long(2_147_483_648)];
+    assert!(rt; comes_back(alloc, &large, RowFault::Kind { column: 2 })?);
+    Ok(())
+}
+
+/// How the first row compares with the second.
+const ORDERS: [(&[Plain], &[Plain], Ordering); 4] = [
+    (
+        &[Plain::Null, Plain::Boolean(false), Plain::Date(1)],
+        &[Plain::Long(-1), Plain::Boolean(false), Plain::Date(1)],
+        Ordering::Less,
+    ),
+    (
+        &[Plain::Long(-1), Plain::Boolean(false), Plain::Date(1)],
+        &[Plain::Long(-1), Plain::Boolean(true), Plain::Date(0)],
+        Ordering::Less,
+    ),
+    (
+        &[Plain::Long(-1), Plain::Boolean(true), Plain::Date(0)],
+        &[Plain::Null, Plain::Boolean(false), Plain::Date(1)],
+        Ordering::Greater,
+    ),
+    (
+        &[],
+        &[Plain::Null, Plain::Boolean(false), Plain::Date(1)],
+        Ordering::Less,
+    ),
+];
+
+/// Whether rows compare so.
+fn compare_so(
+    alloc: Global,
+    first: &[Plain],
+    second: &[Plain],
+    want: Ordering,
+) -> Result<bool, NoMemory> {
+    let first = row(alloc, first)?;
+    let second = row(alloc, second)?;
+    let order = cmp_rows(first.as_slice(), second.as_slice());
+    Ok(order == want && (first < second) == want.is_lt())
+}
+
+#[test]
+fn rows_are_ordered(rt: HostRuntime) -> Result<(), Fail> {
+    for (first, second, want) in ORDERS {
+        assert!(rt; compare_so(rt.alloc(), first, second, want)?);
     }
     Ok(())
 }
 
 #[test]
-fn rows_are_ordered(rt: HostRuntime) -> Result<(), Fail> {
-    let alloc = rt.alloc();
-    let null = row(alloc, Datum::Null, Datum::Boolean(false), Datum::Date(1))?;
-    let less = row(
-        alloc,
-        Datum::Long(-1),
-        Datum::Boolean(false),
-        Datum::Date(1),
-    )?;
-    let more = row(alloc, Datum::Long(-1), Datum::Boolean(true), Datum::Date(0))?;
-    assert_eq!(rt; cmp_rows(null.as_slice(), less.as_slice()), Ordering::Less);
-    assert_eq!(rt; cmp_rows(less.as_slice(), more.as_slice()), Ordering::Less);
-    assert_eq!(rt;
-        cmp_rows(more.as_slice(), null.as_slice()),
-        Ordering::Greater
-    );
-    assert!(rt; less < more);
-    assert_eq!(rt; more.as_slice().len(), 3);
-    let short = Row::make(Vec::new(alloc));
-    assert_eq!(rt; cmp_rows(short.as_slice(), null.as_slice()), Ordering::Less);
-    assert_eq!(rt; more.into_vec().len(), 3);
+fn rows_are_lists(rt: HostRuntime) -> Result<(), Fail> {
+    let row = row(rt.alloc(), &[Plain::Long(-1), Plain::Null, Plain::Date(0)])?;
+    assert!(rt; row.as_slice().len() == 3);
+    assert!(rt; row.into_vec().len() == 3);
     Ok(())
+}
+
+/// Puts a row of one long behind the rows.
+fn push_long(alloc: Global, rows: &mut Rows, number: i64) -> Result<(), NoMemory> {
+    let mut data = data(alloc, &[Plain::Long(number)])?;
+    rows.push_from(&mut data)
 }
 
 /// Three rows of one long each.
 fn three_rows(alloc: Global) -> Result<Rows, NoMemory> {
     let mut rows = Rows::with_capacity(alloc, 3, 3)?;
-    let mut data = Vec::new(alloc);
-    for n in [3, 1, 2] {
-        data.push(Datum::Long(n))?;
-        rows.push_from(&mut data)?;
-    }
+    push_long(alloc, &mut rows, 3)?;
+    push_long(alloc, &mut rows, 1)?;
+    push_long(alloc, &mut rows, 2)?;
     Ok(rows)
 }
 
@@ -205,39 +334,40 @@ fn long_of(row: Option<&[Datum]>) -> Option<i64> {
 
 /// Three rows and one more, and these four once more.
 fn eight_rows(alloc: Global) -> Result<Rows, NoMemory> {
+    let more = row(alloc, &[Plain::Long(9), Plain::Null, Plain::Null])?;
     let mut rows = three_rows(alloc)?;
-    let more = row(alloc, Datum::Long(9), Datum::Null, Datum::Null)?;
     rows.push_copy(more.as_slice())?;
     let copy = rows.copy(alloc)?;
     rows.append(copy)?;
     Ok(rows)
 }
 
-/// The first longs of these rows, each behind a space.
-fn longs_text(alloc: Global, rows: RowSlice<'_>) -> Result<String, NoMemory> {
-    let mut text = String::new(alloc);
-    for row in rows {
-        if let Some(n) = long_of(Some(row)) {
-            write!(text, " {n}")?;
-        }
+/// Notes a number behind a space. Where memory is wanting it is left out, and the text isn't the one that is wanted.
+fn note(text: &mut String, number: Option<i64>) {
+    if let Some(n) = number {
+        write!(text, " {n}").ok();
     }
-    Ok(text)
 }
 
-/// These longs, to be taken from.
-fn longs(alloc: Global, numbers: &[i64]) -> Result<VecDeque<Datum>, NoMemory> {
-    let mut values = Vec::new(alloc);
-    for number in numbers {
-        values.push(Datum::Long(*number))?;
+/// The first longs of these rows, each behind a space.
+fn longs_text(alloc: Global, rows: RowSlice<'_>) -> String {
+    let mut text = String::new(alloc);
+    for row in rows {
+        note(&mut text, long_of(Some(row)));
     }
-    Ok(VecDeque::from_vec(values))
+    text
+}
+
+/// A column's data, to be taken from.
+fn column_data(alloc: Global, plain: &[Plain]) -> Result<VecDeque<Datum>, NoMemory> {
+    Ok(VecDeque::from_vec(data(alloc, plain)?))
 }
 
 /// The two rows of the columns 4, 5 and 6.
 fn side_by_side(alloc: Global) -> Result<Rows, NoMemory> {
     let mut columns = Vec::new(alloc);
-    columns.push(longs(alloc, &[4, 5])?)?;
-    columns.push(longs(alloc, &[6])?)?;
+    columns.push(column_data(alloc, &[Plain::Long(4), Plain::Long(5)])?)?;
+    columns.push(column_data(alloc, &[Plain::Long(6)])?)?;
     let mut rows = Rows::new(alloc);
     rows.reserve(2, 4)?;
     rows.push_next(columns.as_mut_slice())?;
@@ -248,7 +378,7 @@ fn side_by_side(alloc: Global) -> Result<Rows, NoMemory> {
 #[test]
 fn columns_become_rows(rt: HostRuntime) -> Result<(), Fail> {
     let rows = side_by_side(rt.alloc())?;
-    assert_eq!(rt; rows.len(), 2);
+    assert!(rt; rows.len() == 2);
     assert!(rt; rows.get(0) == Some(&[Datum::Long(4), Datum::Long(6)]));
     assert!(rt; rows.get(1) == Some(&[Datum::Long(5), Datum::Null]));
     Ok(())
@@ -258,12 +388,11 @@ fn columns_become_rows(rt: HostRuntime) -> Result<(), Fail> {
 fn rows_are_kept_in_one_list(rt: HostRuntime) -> Result<(), Fail> {
     let rows = eight_rows(rt.alloc())?;
     may_cross(&rows);
-    assert!(rt; !rows.is_empty());
-    assert_eq!(rt; rows.len(), 8);
-    assert_eq!(rt; long_of(rows.get(3)), Some(9));
-    assert_eq!(rt; long_of(rows.get(8)), None);
-    let text = longs_text(rt.alloc(), rows.iter())?;
-    assert_eq!(rt; text.as_str(), " 3 1 2 9 3 1 2 9");
+    assert!(rt; !rows.is_empty() && rows.len() == 8);
+    assert!(rt; long_of(rows.get(3)) == Some(9));
+    assert!(rt; long_of(rows.get(8)) == None);
+    let text = longs_text(rt.alloc(), rows.iter());
+    assert!(rt; text.as_str() == " 3 1 2 9 3 1 2 9");
     Ok(())
 }
 
@@ -273,72 +402,108 @@ fn rows_are_cut(rt: HostRuntime) -> Result<(), Fail> {
     let all = rows.iter();
     assert!(rt; 5 <= all.len());
     let (front, back) = all.split_at(5);
-    assert_eq!(rt; front.len(), 5);
-    assert!(rt; !back.is_empty());
-    assert_eq!(rt; long_of(back.get(0)), Some(1));
-    let text = longs_text(rt.alloc(), back)?;
-    assert_eq!(rt; text.as_str(), " 1 2 9");
+    assert!(rt; front.len() == 5 && !back.is_empty());
+    assert!(rt; long_of(back.get(0)) == Some(1));
+    let text = longs_text(rt.alloc(), back);
+    assert!(rt; text.as_str() == " 1 2 9");
     Ok(())
+}
+
+/// The eight rows in order.
+fn in_order(alloc: Global) -> Result<Rows, NoMemory> {
+    let rows = eight_rows(alloc)?;
+    sorted(alloc, &rows)
 }
 
 #[test]
 fn rows_are_sorted(rt: HostRuntime) -> Result<(), Fail> {
-    let alloc = rt.alloc();
-    let ordered = sorted(alloc, &eight_rows(alloc)?)?;
-    let text = longs_text(alloc, ordered.iter())?;
-    assert_eq!(rt; text.as_str(), " 1 1 2 2 3 3 9 9");
-    let again = Rows::from_rows(alloc, ordered.to_rows(alloc)?)?;
-    assert_eq!(rt; again.len(), 8);
+    let ordered = in_order(rt.alloc())?;
+    let text = longs_text(rt.alloc(), ordered.iter());
+    assert!(rt; text.as_str() == " 1 1 2 2 3 3 9 9");
+    Ok(())
+}
+
+/// The eight rows, each taken out and put back.
+fn put_back(alloc: Global) -> Result<Rows, NoMemory> {
+    let rows = eight_rows(alloc)?;
+    let apart = rows.to_rows(alloc)?;
+    Rows::from_rows(alloc, apart)
+}
+
+#[test]
+fn rows_are_taken_apart(rt: HostRuntime) -> Result<(), Fail> {
+    let again = put_back(rt.alloc())?;
+    assert!(rt; again.len() == 8);
     Ok(())
 }
 
 #[test]
 fn files_are_copied(rt: HostRuntime) -> Result<(), Fail> {
-    let file = ScannedFile {
-        path: Text::make(rt.alloc(), "f")?,
-        rows: three_rows(rt.alloc())?,
-    };
+    let rows = three_rows(rt.alloc())?;
+    let path = Text::make(rt.alloc(), "f")?;
+    let file = ScannedFile { path, rows };
     may_cross(&file);
     let copy = file.copy(rt.alloc())?;
-    assert_eq!(rt; copy.rows.len(), 3);
+    assert!(rt; copy.rows.len() == 3);
     Ok(())
 }
 
+const NATURALS: [(&[u8], Option<u64>); 4] = [
+    (b"007", Some(7)),
+    (b"18446744073709551615", Some(u64::MAX)),
+    (b"18446744073709551616", None),
+    (b"+7", None),
+];
+
+const DECIMALS: [(&[u8], Option<u64>); 2] = [(b"0", Some(0)), (b"07", None)];
+
+const LONGS: [(&[u8], Option<i64>); 4] = [
+    (b"-9223372036854775808", Some(i64::MIN)),
+    (b"-007", Some(-7)),
+    (b"9223372036854775808", None),
+    (b"-", None),
+];
+
 #[test]
-fn numbers_are_read(rt: HostRuntime) -> Result<(), Fail> {
-    assert!(rt; are_digits(b"0123456789"));
-    assert!(rt; !are_digits(b"1a"));
-    assert_eq!(rt; read_natural(b"007"), Some(7));
-    assert_eq!(rt; read_natural(b"18446744073709551615"), Some(u64::MAX));
-    assert_eq!(rt; read_natural(b"18446744073709551616"), None);
-    assert_eq!(rt; read_natural(b"+7"), None);
-    assert_eq!(rt; read_decimal(b"0"), Some(0));
-    assert_eq!(rt; read_decimal(b"07"), None);
-    assert_eq!(rt; read_long(b"-9223372036854775808"), Some(i64::MIN));
-    assert_eq!(rt; read_long(b"-007"), Some(-7));
-    assert_eq!(rt; read_long(b"9223372036854775808"), None);
-    assert_eq!(rt; read_long(b"-"), None);
-    Ok(())
+fn numbers_are_read(rt: HostRuntime) {
+    assert!(rt; are_digits(b"0123456789") && !are_digits(b"1a"));
+    for (text, want) in NATURALS {
+        assert!(rt; read_natural(text) == want);
+    }
+    for (text, want) in DECIMALS {
+        assert!(rt; read_decimal(text) == want);
+    }
+    for (text, want) in LONGS {
+        assert!(rt; read_long(text) == want);
+    }
+}
+
+const DATES: [(&str, Option<i32>); 10] = [
+    ("2024-02-29", Some(19782)),
+    ("2023-02-29", None),
+    ("1970-01-01", Some(0)),
+    ("0001-01-01", Some(-719162)),
+    ("9999-12-31", Some(2932896)),
+    ("0000-12-31", None),
+    ("2024-2-29", None),
+    ("2024-02-2:", None),
+    ("2024/02/29", None),
+    ("2024-13-01", None),
+];
+
+/// Whether a text is read as this date.
+fn is_date(alloc: Global, text: &str, want: Option<i32>) -> Result<bool, NoMemory> {
+    let text = Text::make(alloc, text)?;
+    Ok(read_date(&text) == want)
 }
 
 #[test]
 fn dates_are_read_and_written(rt: HostRuntime) -> Result<(), Fail> {
-    let alloc = rt.alloc();
-    for (text, want) in [
-        ("2024-02-29", Some(19782)),
-        ("2023-02-29", None),
-        ("1970-01-01", Some(0)),
-        ("0001-01-01", Some(-719162)),
-        ("9999-12-31", Some(2932896)),
-        ("0000-12-31", None),
-        ("2024-2-29", None),
-        ("2024-02-2:", None),
-        ("2024/02/29", None),
-        ("2024-13-01", None),
-    ] {
-        assert_eq!(rt; read_date(&Text::make(alloc, text)?), want, "of {text}");
+    for (text, want) in DATES {
+        assert!(rt; is_date(rt.alloc(), text, want)?, "of {text}");
     }
-    assert_eq!(rt; write_date(alloc, 19782)?.as_str(), "2024-02-29");
+    let text = write_date(rt.alloc(), 19782)?;
+    assert!(rt; text.as_str() == "2024-02-29");
     Ok(())
 }
 

@@ -1,6 +1,6 @@
 //! Worked calls of the store in memory, of the sources and of the sinks.
 use edge_api::{
-    Answer, Body, Call, CallKind, Called, Failed, FlakyWorld, How, Listed, Listing, MemSink,
+    Answer, Back, Body, Call, CallKind, Called, Failed, FlakyWorld, How, Listed, Listing, MemSink,
     MemSource, MemWorld, Name, Object, ReadError, Sink, Source, StdSink, StdSource, Tag, Trouble,
     World, read_all, replay_journal, write_all,
 };
@@ -17,17 +17,16 @@ fn body(alloc: Global, bytes: &[u8]) -> Result<Body, NoMemory> {
     Body::make(alloc, bytes.to_vec(alloc)?)
 }
 
-/// A call by its word. The number of a wait is the length of the bytes.
-fn call_of(alloc: Global, word: &str, text: &str, bytes: &[u8]) -> Result<Call, NoMemory> {
-    let name = Name::make(alloc, text)?;
-    match word {
-        "get" => Ok(Call::Get(name)),
-        "put new" => Ok(Call::PutNew(name, body(alloc, bytes)?)),
-        "put" => Ok(Call::Put(name, body(alloc, bytes)?)),
-        "list" => Ok(Call::List(name)),
-        "delete" => Ok(Call::Delete(name)),
-        "now" => Ok(Call::Now),
-        _ => Ok(Call::Wait(bytes.len() as u64)),
+/// A call of this kind. The number of a wait is the length of the bytes.
+fn call_of(alloc: Global, kind: CallKind, text: &str, bytes: &[u8]) -> Result<Call, NoMemory> {
+    match kind {
+        CallKind::Get => Ok(Call::Get(Name::make(alloc, text)?)),
+        CallKind::PutNew => Ok(Call::PutNew(Name::make(alloc, text)?, body(alloc, bytes)?)),
+        CallKind::Put => Ok(Call::Put(Name::make(alloc, text)?, body(alloc, bytes)?)),
+        CallKind::List => Ok(Call::List(Name::make(alloc, text)?)),
+        CallKind::Delete => Ok(Call::Delete(Name::make(alloc, text)?)),
+        CallKind::Now => Ok(Call::Now),
+        CallKind::Wait => Ok(Call::Wait(bytes.len() as u64)),
     }
 }
 
@@ -45,122 +44,182 @@ fn is_answer(answer: &Answer, want: &str) -> bool {
     }
 }
 
-/// Makes a call through the bound.
-fn made<W: World>(world: &mut W, call: Call) -> Result<Answer, NoMemory> {
-    world.call(TAG, call).map_err(|_| NoMemory)
+/// Whether there is an answer, and it is the one that is wanted.
+fn is_told(told: &Result<Answer, Back>, want: &str) -> bool {
+    match told {
+        Ok(answer) => is_answer(answer, want),
+        Err(_) => false,
+    }
 }
 
 /// Whether a call has the answer that is wanted.
-fn answers<W: World>(world: &mut W, call: Call, want: &str) -> Result<bool, NoMemory> {
-    let answer = made(world, call)?;
-    Ok(is_answer(&answer, want))
+fn answers<W: World>(world: &mut W, call: Result<Call, NoMemory>, want: &str) -> bool {
+    match call {
+        Ok(call) => {
+            let told = world.call(TAG, call);
+            is_told(&told, want)
+        }
+        Err(_) => false,
+    }
+}
+
+/// A call's kind, its name, its bytes and the answer that is wanted.
+type Told = (CallKind, &'static str, &'static [u8], &'static str);
+
+/// Makes the calls one after another. Whether each has the answer that is wanted.
+fn are_answered<W: World>(alloc: Global, world: &mut W, calls: &[Told]) -> bool {
+    let mut all = true;
+    for (kind, text, bytes, want) in calls {
+        all = answers(world, call_of(alloc, *kind, text, bytes), want) && all;
+    }
+    all
+}
+
+/// The time that is told.
+fn time_in(told: &Result<Answer, Back>) -> Option<u64> {
+    match told {
+        Ok(Answer::Time(time)) => Some(*time),
+        _ => None,
+    }
 }
 
 /// The clock, by a call.
-fn time_of<W: World>(world: &mut W) -> Result<Option<u64>, NoMemory> {
-    match made(world, Call::Now)? {
-        Answer::Time(time) => Ok(Some(time)),
-        _ => Ok(None),
+fn time_of<W: World>(world: &mut W) -> Option<u64> {
+    let told = world.call(TAG, Call::Now);
+    time_in(&told)
+}
+
+/// The names that are told.
+fn names_in(told: &Result<Answer, Back>) -> Result<Listing, NoMemory> {
+    match told {
+        Ok(Answer::Names(listing)) => listing.copy(),
+        _ => Err(NoMemory),
     }
 }
 
 /// The names with a prefix, by a call.
 fn listed(alloc: Global, world: &mut MemWorld, prefix: &str) -> Result<Listing, NoMemory> {
-    match made(world, Call::List(Name::make(alloc, prefix)?))? {
-        Answer::Names(listing) => Ok(listing),
-        _ => Err(NoMemory),
-    }
+    let prefix = Name::make(alloc, prefix)?;
+    let told = world.call(TAG, Call::List(prefix));
+    names_in(&told)
 }
 
-#[test]
-fn each_call_is_answered(rt: HostRuntime) -> Result<(), Fail> {
-    let alloc = rt.alloc();
-    let mut world = MemWorld::new(alloc, 5);
-    for (word, text, bytes, want) in [
-        ("put new", "a", b"one", "stored"),
-        ("put new", "a", b"two", "taken"),
-        ("get", "a", b"   ", "one"),
-        ("delete", "a", b"   ", "gone"),
-        ("get", "a", b"   ", "missing"),
-        ("delete", "a", b"   ", "gone"),
-        ("put", "b", b"two", "stored"),
-        ("put", "b", b"six", "stored"),
-        ("get", "b", b"   ", "six"),
-        ("wait", "", b"   ", "waited"),
-    ] {
-        let call = call_of(alloc, word, text, bytes)?;
-        assert!(rt; answers(&mut world, call, want)?, "{word} {text}");
-    }
-    assert_eq!(rt; world.journal().len(), 10);
-    Ok(())
-}
+const CALLS: [Told; 10] = [
+    (CallKind::PutNew, "a", b"one", "stored"),
+    (CallKind::PutNew, "a", b"two", "taken"),
+    (CallKind::Get, "a", b"", "one"),
+    (CallKind::Delete, "a", b"", "gone"),
+    (CallKind::Get, "a", b"", "missing"),
+    (CallKind::Delete, "a", b"", "gone"),
+    (CallKind::Put, "b", b"two", "stored"),
+    (CallKind::Put, "b", b"six", "stored"),
+    (CallKind::Get, "b", b"", "six"),
+    (CallKind::Wait, "", b"   ", "waited"),
+];
 
 #[test]
-fn objects_are_found(rt: HostRuntime) -> Result<(), Fail> {
-    let alloc = rt.alloc();
-    let mut world = MemWorld::new(alloc, 5);
-    let call = call_of(alloc, "put", "a", b"one")?;
-    assert!(rt; answers(&mut world, call, "stored")?);
-    for (text, want) in [("a", Some(true)), ("b", None)] {
-        let name = Name::make(alloc, text)?;
-        let found = world
-            .object(&name)
-            .map(|body| body.as_bytes() == b"one".as_slice());
-        assert_eq!(rt; found, want);
-    }
-    Ok(())
-}
-
-#[test]
-fn a_wait_moves_the_clock(rt: HostRuntime) -> Result<(), Fail> {
+fn each_call_is_answered(rt: HostRuntime) {
     let mut world = MemWorld::new(rt.alloc(), 5);
-    for (wait, time) in [(0, 5), (7, 12), (u64::MAX, 1 << 61), (1, 1 << 61)] {
-        assert!(rt; answers(&mut world, Call::Wait(wait), "waited")?);
-        assert_eq!(rt; time_of(&mut world)?, Some(time), "after {wait}");
+    assert!(rt; are_answered(rt.alloc(), &mut world, &CALLS));
+    assert!(rt; world.journal().len() == 10);
+}
+
+/// Whether these bytes are found; no bytes where nothing is to be found.
+fn are_found(found: Option<&Body>, bytes: &str) -> bool {
+    match found {
+        Some(body) => body.as_bytes() == bytes.as_bytes(),
+        None => bytes.is_empty(),
     }
-    Ok(())
+}
+
+/// Whether the object under a name has these bytes, or isn't there, where there are none.
+fn holds(alloc: Global, world: &MemWorld, text: &str, bytes: &str) -> bool {
+    match Name::make(alloc, text) {
+        Ok(name) => are_found(world.object(&name), bytes),
+        Err(_) => false,
+    }
+}
+
+#[test]
+fn objects_are_found(rt: HostRuntime) {
+    let alloc = rt.alloc();
+    let mut world = MemWorld::new(alloc, 5);
+    assert!(rt; are_answered(alloc, &mut world, &[(CallKind::Put, "a", b"one", "stored")]));
+    assert!(rt; holds(alloc, &world, "a", "one"));
+    assert!(rt; holds(alloc, &world, "b", ""));
+}
+
+const WAITS: [(u64, u64); 4] = [(0, 5), (7, 12), (u64::MAX, 1 << 61), (1, 1 << 61)];
+
+/// Whether the clock has this time after a wait.
+fn is_moved(world: &mut MemWorld, wait: u64, time: u64) -> bool {
+    answers(world, Ok(Call::Wait(wait)), "waited") && time_of(world) == Some(time)
+}
+
+#[test]
+fn a_wait_moves_the_clock(rt: HostRuntime) {
+    let mut world = MemWorld::new(rt.alloc(), 5);
+    for (wait, time) in WAITS {
+        assert!(rt; is_moved(&mut world, wait, time), "after {wait}");
+    }
+}
+
+/// Puts an object whose bytes are its name, and waits for a millisecond.
+fn is_put(alloc: Global, world: &mut MemWorld, text: &str) -> bool {
+    let call = call_of(alloc, CallKind::PutNew, text, text.as_bytes());
+    answers(world, call, "stored") && answers(world, Ok(Call::Wait(1)), "waited")
 }
 
 /// Puts objects of these names, each a millisecond after the one before.
-fn put_all(alloc: Global, world: &mut MemWorld, names: &[&str]) -> Result<bool, NoMemory> {
+fn are_put(alloc: Global, world: &mut MemWorld, names: &[&str]) -> bool {
+    let mut all = true;
     for text in names {
-        let call = call_of(alloc, "put new", text, text.as_bytes())?;
-        if !answers(world, call, "stored")? || !answers(world, Call::Wait(1), "waited")? {
-            return Ok(false);
-        }
+        all = is_put(alloc, world, text) && all;
     }
-    Ok(true)
+    all
+}
+
+/// Notes a name and a time. Where memory is wanting it is left out, and the text isn't the one that is wanted.
+fn note(text: &mut String, name: &Name, time: u64) {
+    write!(text, "{} {time}; ", name.as_str()).ok();
+}
+
+/// What is listed, as a text.
+fn listing_text(alloc: Global, listing: &[Listed]) -> String {
+    let mut text = String::new(alloc);
+    for item in listing {
+        note(&mut text, &item.name, item.put_at);
+    }
+    text
+}
+
+/// Whether the names with a prefix are these, with their times.
+fn lists(alloc: Global, world: &mut MemWorld, prefix: &str, want: &str) -> bool {
+    match listed(alloc, world, prefix) {
+        Ok(listing) => listing_text(alloc, listing.as_slice()).as_str() == want,
+        Err(_) => false,
+    }
 }
 
 #[test]
-fn names_are_listed_in_byte_order(rt: HostRuntime) -> Result<(), Fail> {
+fn names_are_listed_in_byte_order(rt: HostRuntime) {
     let alloc = rt.alloc();
     let mut world = MemWorld::new(alloc, 5);
-    assert!(rt;
-        put_all(
-            alloc,
-            &mut world,
-            &["d/2", "d/10", "a", "d", "d/é", "e", "d/1"]
-        )?
-    );
-    let listing = listed(alloc, &mut world, "d/")?;
-    let want = [("d/1", 11), ("d/10", 6), ("d/2", 5), ("d/é", 9)];
-    assert_eq!(rt; listing.as_slice().len(), want.len());
-    for (item, (text, time)) in listing.as_slice().iter().zip(want.iter()) {
-        assert_eq!(rt; item.name.as_str(), *text);
-        assert_eq!(rt; item.put_at, *time);
+    let names = ["d/2", "d/10", "a", "d", "d/é", "e", "d/1"];
+    assert!(rt; are_put(alloc, &mut world, &names));
+    assert!(rt; lists(alloc, &mut world, "d/", "d/1 11; d/10 6; d/2 5; d/é 9; "));
+}
+
+/// The objects with their times, as a text.
+fn objects_text(alloc: Global, objects: &[(Name, Object)]) -> String {
+    let mut text = String::new(alloc);
+    for (name, object) in objects {
+        note(&mut text, name, object.put_at);
     }
-    Ok(())
+    text
 }
 
-/// Whether the store has these objects, with these times in its listing.
-fn has_objects(world: &MemWorld, listing: &[Listed], objects: &[(Name, Object)]) -> bool {
-    listing.len() == objects.len()
-        && listing.iter().zip(objects.iter()).all(|(item, (name, object))| {
-            item.name == *name && item.put_at == object.put_at && has_object(world, name, object)
-        })
-}
-
+/// Whether the store has the same bytes.
 fn has_object(world: &MemWorld, name: &Name, object: &Object) -> bool {
     match world.object(name) {
         Some(body) => body.as_bytes() == object.body.as_bytes(),
@@ -168,167 +227,159 @@ fn has_object(world: &MemWorld, name: &Name, object: &Object) -> bool {
     }
 }
 
+/// Whether the store has the same bytes under each name.
+fn has_objects(world: &MemWorld, objects: &[(Name, Object)]) -> bool {
+    let mut all = true;
+    for (name, object) in objects {
+        all = has_object(world, name, object) && all;
+    }
+    all
+}
+
+/// Whether a replay of the store's journal leaves the store's objects, which have these names and times.
+fn replays(alloc: Global, world: &mut MemWorld, want: &str) -> Result<bool, NoMemory> {
+    let objects = replay_journal(alloc, 5, world.journal())?;
+    let text = objects_text(alloc, &objects);
+    Ok(text.as_str() == want && has_objects(world, &objects) && lists(alloc, world, "", want))
+}
+
+const CHANGES: [Told; 3] = [
+    (CallKind::PutNew, "b", b"new", "taken"),
+    (CallKind::Delete, "c", b"", "gone"),
+    (CallKind::Put, "a", b"new", "stored"),
+];
+
 #[test]
-fn a_replay_leaves_the_same_objects(rt: HostRuntime) -> Result<(), Fail> {
+fn a_replay_leaves_the_same_objects(rt: HostRuntime) {
     let alloc = rt.alloc();
     let mut world = MemWorld::new(alloc, 5);
-    assert!(rt; put_all(alloc, &mut world, &["b", "a", "c", "aa"])?);
-    for (word, text, want) in [
-        ("put new", "b", "taken"),
-        ("delete", "c", "gone"),
-        ("put", "a", "stored"),
-    ] {
-        let call = call_of(alloc, word, text, b"new")?;
-        assert!(rt; answers(&mut world, call, want)?);
-    }
-    let objects = replay_journal(alloc, 5, world.journal())?;
-    let listing = listed(alloc, &mut world, "")?;
-    assert_eq!(rt; objects.len(), 3);
-    assert!(rt; has_objects(&world, listing.as_slice(), &objects));
-    Ok(())
-}
-
-/// A plan in which one call of this tag fails.
-fn plan_of(alloc: Global, kind: CallKind, nth: u32, how: How) -> Result<Vec<Trouble>, NoMemory> {
-    let tag = TAG;
-    Ok(vec![in alloc;
-        Trouble {
-            tag,
-            kind,
-            nth,
-            how
-        },
-    ]?)
-}
-
-/// Whether the object under a name has these bytes, or isn't there, where there are none.
-fn holds(alloc: Global, world: &FlakyWorld, text: &str, bytes: &str) -> Result<bool, NoMemory> {
-    let name = Name::make(alloc, text)?;
-    match world.inner().object(&name) {
-        Some(body) => Ok(body.as_bytes() == bytes.as_bytes()),
-        None => Ok(bytes.is_empty()),
-    }
+    assert!(rt; are_put(alloc, &mut world, &["b", "a", "c", "aa"]));
+    assert!(rt; are_answered(alloc, &mut world, &CHANGES));
+    let same = replays(alloc, &mut world, "a 9; aa 8; b 5; ");
+    assert!(rt; same == Ok(true));
 }
 
 /// A call that fails, and what it leaves: the bytes of `a` and of `b`, and the clock.
-#[derive(Clone, Copy, Drop)]
-struct Failing {
-    how: How,
-    kind: CallKind,
-    word: &'static str,
-    text: &'static str,
-    a: &'static str,
-    b: &'static str,
-    time: u64,
+type Failing = (CallKind, &'static str, &'static str, &'static str, u64);
+
+/// Whether a call fails and leaves what is wanted.
+fn leaves(alloc: Global, world: &mut FlakyWorld, row: Failing) -> bool {
+    let (kind, text, a, b, time) = row;
+    answers(world, call_of(alloc, kind, text, b"new"), "fault")
+        && holds(alloc, world.inner(), "a", a)
+        && holds(alloc, world.inner(), "b", b)
+        && world.inner().journal().len() == 2
+        && time_of(world) == Some(time)
+}
+
+/// The plan by which the first call of a kind fails.
+fn plan_of(alloc: Global, kind: CallKind, how: How) -> Result<Vec<Trouble>, NoMemory> {
+    let trouble = Trouble {
+        tag: TAG,
+        kind,
+        nth: 1,
+        how,
+    };
+    Ok([trouble].to_vec(alloc)?)
 }
 
 /// Whether the call fails and leaves what is wanted, where `a` has the bytes `old` and the clock stands at 5.
-fn fails(alloc: Global, row: &Failing) -> Result<bool, NoMemory> {
+fn fails(alloc: Global, how: How, row: Failing) -> Result<bool, NoMemory> {
+    let plan = plan_of(alloc, row.0, how)?;
     let mut world = MemWorld::new(alloc, 5);
-    let put = call_of(alloc, "put", "a", b"old")?;
-    if !answers(&mut world, put, "stored")? {
-        return Ok(false);
-    }
-    let mut world = FlakyWorld::new(world, plan_of(alloc, row.kind, 1, row.how)?);
-    let call = call_of(alloc, row.word, row.text, b"new")?;
-    Ok(
-        answers(&mut world, call, "fault")?
-            && holds(alloc, &world, "a", row.a)?
-            && holds(alloc, &world, "b", row.b)?
-            && world.inner().journal().len() == 2
-            && time_of(&mut world)? == Some(row.time),
-    )
+    let put = are_answered(alloc, &mut world, &[(CallKind::Put, "a", b"old", "stored")]);
+    let mut world = FlakyWorld::new(world, plan);
+    Ok(leaves(alloc, &mut world, row) && put)
 }
+
+const NOT_DONE: [Failing; 7] = [
+    (CallKind::Get, "a", "old", "", 5),
+    (CallKind::PutNew, "b", "old", "", 5),
+    (CallKind::Put, "a", "old", "", 5),
+    (CallKind::List, "", "old", "", 5),
+    (CallKind::Delete, "a", "old", "", 5),
+    (CallKind::Now, "", "old", "", 5),
+    (CallKind::Wait, "", "old", "", 5),
+];
 
 #[test]
 fn a_call_that_is_not_done_changes_nothing(rt: HostRuntime) -> Result<(), Fail> {
-    for (kind, word, text) in [
-        (CallKind::Get, "get", "a"),
-        (CallKind::PutNew, "put new", "b"),
-        (CallKind::Put, "put", "a"),
-        (CallKind::List, "list", ""),
-        (CallKind::Delete, "delete", "a"),
-        (CallKind::Now, "now", ""),
-        (CallKind::Wait, "wait", ""),
-    ] {
-        let row = Failing {
-            how: How::NotDone,
-            kind,
-            word,
-            text,
-            a: "old",
-            b: "",
-            time: 5,
-        };
-        assert!(rt; fails(rt.alloc(), &row)?, "{word}");
+    for row in NOT_DONE {
+        assert!(rt; fails(rt.alloc(), How::NotDone, row)?);
     }
     Ok(())
 }
 
+const UNHEARD: [Failing; 8] = [
+    (CallKind::Get, "a", "old", "", 5),
+    (CallKind::PutNew, "b", "old", "new", 5),
+    (CallKind::PutNew, "a", "old", "", 5),
+    (CallKind::Put, "a", "new", "", 5),
+    (CallKind::List, "", "old", "", 5),
+    (CallKind::Delete, "a", "", "", 5),
+    (CallKind::Now, "", "old", "", 5),
+    (CallKind::Wait, "", "old", "", 8),
+];
+
 #[test]
 fn a_call_that_is_unheard_is_done(rt: HostRuntime) -> Result<(), Fail> {
-    for (kind, word, text, a, b, time) in [
-        (CallKind::Get, "get", "a", "old", "", 5),
-        (CallKind::PutNew, "put new", "b", "old", "new", 5),
-        (CallKind::PutNew, "put new", "a", "old", "", 5),
-        (CallKind::Put, "put", "a", "new", "", 5),
-        (CallKind::List, "list", "", "old", "", 5),
-        (CallKind::Delete, "delete", "a", "", "", 5),
-        (CallKind::Now, "now", "", "old", "", 5),
-        (CallKind::Wait, "wait", "", "old", "", 8),
-    ] {
-        let row = Failing {
-            how: How::DoneUnheard,
-            kind,
-            word,
-            text,
-            a,
-            b,
-            time,
-        };
-        assert!(rt; fails(rt.alloc(), &row)?, "{word} {text}");
+    for row in UNHEARD {
+        assert!(rt; fails(rt.alloc(), How::DoneUnheard, row)?);
     }
     Ok(())
 }
+
+/// The second put fails, and then the second one again.
+const TWO: [Trouble; 2] = [
+    Trouble {
+        tag: TAG,
+        kind: CallKind::Put,
+        nth: 2,
+        how: How::NotDone,
+    },
+    Trouble {
+        tag: TAG,
+        kind: CallKind::Put,
+        nth: 2,
+        how: How::DoneUnheard,
+    },
+];
+
+const NUMBERED: [Told; 6] = [
+    (CallKind::Put, "a", b"one", "stored"),
+    (CallKind::Get, "a", b"", "one"),
+    (CallKind::Put, "a", b"two", "fault"),
+    (CallKind::Get, "a", b"", "one"),
+    (CallKind::Put, "a", b"six", "stored"),
+    (CallKind::Get, "a", b"", "six"),
+];
 
 #[test]
 fn the_numbered_calls_fail(rt: HostRuntime) -> Result<(), Fail> {
     let alloc = rt.alloc();
-    let mut plan = plan_of(alloc, CallKind::Put, 2, How::NotDone)?;
-    plan.append(&mut plan_of(alloc, CallKind::Put, 2, How::DoneUnheard)?)?;
+    let plan = TWO.to_vec(alloc)?;
     let mut world = FlakyWorld::new(MemWorld::new(alloc, 5), plan);
-    for (word, bytes, want) in [
-        ("put", b"one", "stored"),
-        ("get", b"   ", "one"),
-        ("put", b"two", "fault"),
-        ("get", b"   ", "one"),
-        ("put", b"six", "stored"),
-        ("get", b"   ", "six"),
-    ] {
-        let call = call_of(alloc, word, "a", bytes)?;
-        assert!(rt; answers(&mut world, call, want)?, "{word} {want}");
-    }
+    assert!(rt; are_answered(alloc, &mut world, &NUMBERED));
     Ok(())
 }
+
+/// The first get of another statement fails.
+const ANOTHER: [Trouble; 1] = [Trouble {
+    tag: Tag {
+        actor: 1,
+        statement: 3,
+    },
+    kind: CallKind::Get,
+    nth: 1,
+    how: How::NotDone,
+}];
 
 #[test]
 fn another_statement_does_not_fail(rt: HostRuntime) -> Result<(), Fail> {
     let alloc = rt.alloc();
-    let tag = Tag {
-        actor: 1,
-        statement: 3,
-    };
-    let plan = vec![in alloc;
-        Trouble {
-            tag,
-            kind: CallKind::Get,
-            nth: 1,
-            how: How::NotDone
-        },
-    ]?;
+    let plan = ANOTHER.to_vec(alloc)?;
     let mut world = FlakyWorld::new(MemWorld::new(alloc, 5), plan);
-    let call = call_of(alloc, "get", "a", b"")?;
-    assert!(rt; answers(&mut world, call, "missing")?);
+    assert!(rt; are_answered(alloc, &mut world, &[(CallKind::Get, "a", b"", "missing")]));
     Ok(())
 }
 
@@ -336,101 +387,159 @@ fn another_statement_does_not_fail(rt: HostRuntime) -> Result<(), Fail> {
 fn names_are_made_and_compared(rt: HostRuntime) -> Result<(), Fail> {
     let alloc = rt.alloc();
     let upper = Name::from_string(String::from_str(alloc, "B")?)?;
-    let lower = Name::make(alloc, "a")?.copy()?;
+    let lower = Name::make(alloc, "a")?;
+    let lower = lower.copy()?;
     assert!(rt; upper.cmp(&lower).is_lt());
     assert!(rt; upper != lower);
-    assert_eq!(rt; lower.as_str(), "a");
-    let text = Name::new(Text::make(alloc, "a")?).into_text();
-    assert_eq!(rt; text.as_str(), "a");
-    assert!(rt; *lower.as_text() == text);
+    assert!(rt; lower.as_str() == "a");
+    Ok(())
+}
+
+#[test]
+fn names_are_texts(rt: HostRuntime) -> Result<(), Fail> {
+    let name = Name::new(Text::make(rt.alloc(), "a")?);
+    assert!(rt; name.as_text().as_str() == "a");
+    let text = name.into_text();
+    assert!(rt; text.as_str() == "a");
     Ok(())
 }
 
 #[test]
 fn a_call_is_copied(rt: HostRuntime) -> Result<(), Fail> {
-    let alloc = rt.alloc();
-    let call = call_of(alloc, "put new", "a", b"one")?.copy()?;
-    assert_eq!(rt; call.kind(), CallKind::PutNew);
+    let call = call_of(rt.alloc(), CallKind::PutNew, "a", b"one")?;
+    let copy = call.copy()?;
+    assert!(rt; copy.kind() == CallKind::PutNew);
     Ok(())
 }
 
 #[test]
 fn what_is_called_is_copied(rt: HostRuntime) -> Result<(), Fail> {
+    let name = Name::make(rt.alloc(), "")?;
     let called = Called {
         kind: CallKind::Now,
-        name: Name::make(rt.alloc(), "")?,
+        name,
     };
-    assert_eq!(rt; called.copy()?.kind, CallKind::Now);
+    let copy = called.copy()?;
+    assert!(rt; copy.kind == CallKind::Now);
     Ok(())
 }
 
 #[test]
 fn an_answer_is_copied(rt: HostRuntime) -> Result<(), Fail> {
-    let answer = Answer::Body(body(rt.alloc(), b"one")?).copy()?;
-    assert!(rt; is_answer(&answer, "one"));
+    let answer = Answer::Body(body(rt.alloc(), b"one")?);
+    let copy = answer.copy()?;
+    assert!(rt; is_answer(&copy, "one"));
     Ok(())
 }
 
 #[test]
 fn a_listing_is_copied(rt: HostRuntime) -> Result<(), Fail> {
-    let listing = Listing::make(rt.alloc(), Vec::new(rt.alloc()))?.copy()?;
-    assert_eq!(rt; listing.as_slice().len(), 0);
+    let listing = Listing::make(rt.alloc(), Vec::new(rt.alloc()))?;
+    let copy = listing.copy()?;
+    assert!(rt; copy.as_slice().is_empty());
     Ok(())
 }
 
+/// A source of these bytes, whose reads of these numbers fail.
+fn source(alloc: Global, bytes: &[u8], failing: &[u32]) -> Result<MemSource, NoMemory> {
+    let bytes = bytes.to_vec(alloc)?;
+    let failing = failing.to_vec(alloc)?;
+    Ok(MemSource::new(bytes, failing))
+}
+
+const READS: [Result<usize, Failed>; 5] = [Ok(2), Err(Failed), Ok(1), Err(Failed), Ok(0)];
+
 #[test]
 fn the_numbered_reads_fail(rt: HostRuntime) -> Result<(), Fail> {
-    let alloc = rt.alloc();
-    let bytes = b"abc".to_vec(alloc)?;
-    let mut source = MemSource::new(bytes, vec![in alloc; 2, 4]?);
+    let mut source = source(rt.alloc(), b"abc", &[2, 4])?;
     let mut room = [0; 2];
-    for want in [Ok(2), Err(Failed), Ok(1), Err(Failed), Ok(0)] {
-        assert_eq!(rt; source.read_some(&mut room), want);
+    for want in READS {
+        assert!(rt; source.read_some(&mut room) == want);
     }
-    assert_eq!(rt; room, *b"cb");
+    assert!(rt; room == *b"cb");
     Ok(())
+}
+
+/// A limit, the number of the read that fails, and how many bytes are read.
+const LIMITS: [(usize, u32, Result<usize, ReadError>); 5] = [
+    (5, 9, Ok(5)),
+    (4, 9, Err(ReadError::TooLong)),
+    (4, 1, Err(ReadError::Failed)),
+    (5, 2, Err(ReadError::Failed)),
+    (4, 2, Err(ReadError::TooLong)),
+];
+
+/// Whether so many bytes of five are read, or this is why not.
+fn is_read(
+    alloc: Global,
+    limit: usize,
+    failing: u32,
+    want: Result<usize, ReadError>,
+) -> Result<bool, NoMemory> {
+    let mut source = source(alloc, b"abcde", &[failing])?;
+    let read = read_all(alloc, &mut source, limit).map(|v| v.len());
+    Ok(read == want)
 }
 
 #[test]
 fn a_source_is_read_within_the_limit(rt: HostRuntime) -> Result<(), Fail> {
-    let alloc = rt.alloc();
-    for (limit, failing, want) in [
-        (5, 9, Ok(5)),
-        (4, 9, Err(ReadError::TooLong)),
-        (4, 1, Err(ReadError::Failed)),
-        (5, 2, Err(ReadError::Failed)),
-        (4, 2, Err(ReadError::TooLong)),
-    ] {
-        let mut source = MemSource::new(b"abcde".to_vec(alloc)?, vec![in alloc; failing]?);
-        let read = read_all(alloc, &mut source, limit).map(|v| v.len());
-        assert_eq!(rt; read, want, "limit {limit}, failing {failing}");
+    for (limit, failing, want) in LIMITS {
+        assert!(rt;
+            is_read(rt.alloc(), limit, failing, want)?,
+            "limit {limit}, failing {failing}"
+        );
     }
     Ok(())
 }
+
+const WRITES: [(&[u8], Result<(), Failed>); 3] = [
+    (b"ab", Ok(())),
+    (b"cd", Err(Failed)),
+    (b"ef", Ok(())),
+];
 
 #[test]
 fn the_numbered_writes_fail(rt: HostRuntime) -> Result<(), Fail> {
-    let alloc = rt.alloc();
-    let mut sink = MemSink::new(alloc, vec![in alloc; 2]?);
-    for (piece, want) in [(b"ab", Ok(())), (b"cd", Err(Failed)), (b"ef", Ok(()))] {
-        assert_eq!(rt; write_all(&mut sink, piece), want);
+    let failing = [2].to_vec(rt.alloc())?;
+    let mut sink = MemSink::new(rt.alloc(), failing);
+    for (piece, want) in WRITES {
+        assert!(rt; write_all(&mut sink, piece) == want);
     }
-    assert_eq!(rt; sink.bytes(), b"abef".as_slice());
+    assert!(rt; sink.bytes() == b"abef".as_slice());
     Ok(())
 }
 
+/// Whether these bytes were read.
+fn are_read(read: Result<Vec<u8>, ReadError>, want: &[u8]) -> bool {
+    match read {
+        Ok(bytes) => bytes.as_slice() == want,
+        Err(_) => false,
+    }
+}
+
 #[test]
-fn readers_and_writers_are_adapted(rt: HostRuntime) -> Result<(), Fail> {
-    let alloc = rt.alloc();
+fn readers_are_adapted(rt: HostRuntime) {
     let mut source = StdSource::new(b"abc".as_slice());
-    let bytes = read_all(alloc, &mut source, 3).map_err(|_| NoMemory)?;
+    let read = read_all(rt.alloc(), &mut source, 3);
+    assert!(rt; are_read(read, b"abc"));
+}
+
+/// What is written through an adapted list.
+fn adapted(alloc: Global, bytes: &[u8]) -> Option<Vec<u8>> {
     let mut written = Vec::new(alloc);
     let mut sink = StdSink::new(&mut written);
-    assert_eq!(rt; write_all(&mut sink, &bytes), Ok(()));
-    assert_eq!(rt; written.as_slice(), b"abc".as_slice());
+    match write_all(&mut sink, bytes) {
+        Ok(()) => Some(written),
+        Err(_) => None,
+    }
+}
+
+#[test]
+fn writers_are_adapted(rt: HostRuntime) {
+    let written = adapted(rt.alloc(), b"abc");
+    assert!(rt; written.is_some_and(|v| v.as_slice() == b"abc".as_slice()));
     let mut none: [u8; 0] = [];
     let mut full = StdSink::new(none.as_mut_slice());
-    assert_eq!(rt; full.write_some(b""), Ok(0));
-    assert_eq!(rt; full.write_some(b"a"), Err(Failed));
-    Ok(())
+    assert!(rt; full.write_some(b"") == Ok(0));
+    assert!(rt; full.write_some(b"a") == Err(Failed));
 }

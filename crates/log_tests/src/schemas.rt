@@ -1,7 +1,7 @@
 //! Texts from outside: schemas written by hand, foreign and damaged ones, and values of partition columns.
 
 use log_actions::{Entry, PartitionMap};
-use row_base::{Items, NoMemory, Schema, Text};
+use row_base::{Items, NoMemory, Row, Schema, Text};
 use schema_text::{SchemaTextFault, read_partition, read_schema, write_partition, write_schema};
 use std::alloc::Global;
 use std::test::Fail;
@@ -35,28 +35,46 @@ fn wrong(fault: &SchemaTextFault) -> Outcome {
     }
 }
 
-/// The schema of a text, partitioned by the column `p` where that is asked.
-fn schema_of(alloc: Global, text: &str, parted: bool) -> Result<Schema, SchemaTextFault> {
-    let mut names = Vec::new(alloc);
-    if parted {
-        names.push(Text::make(alloc, "p")?)?;
-    }
-    let text = Text::make(alloc, text)?;
-    read_schema(alloc, &text, &names)
-}
-
-fn ending(alloc: Global, text: &str, parted: bool) -> Outcome {
-    match schema_of(alloc, text, parted) {
+/// How a reading ended.
+fn outcome_of<T: Drop>(read: Result<T, SchemaTextFault>) -> Outcome {
+    match read {
         Ok(_) => Outcome::Read,
         Err(fault) => wrong(&fault),
     }
 }
 
-fn rewritten(alloc: Global, text: &str, parted: bool) -> Result<Text, NoMemory> {
-    match schema_of(alloc, text, parted) {
-        Ok(schema) => write_schema(alloc, &schema),
-        Err(_) => Text::make(alloc, "refused"),
-    }
+/// A list of this text alone.
+fn one_text(alloc: Global, text: &str) -> Result<Vec<Text>, NoMemory> {
+    let text = Text::make(alloc, text)?;
+    let mut texts = Vec::new(alloc);
+    texts.push(text)?;
+    Ok(texts)
+}
+
+/// The schema of a text, partitioned by this column.
+fn parted_schema(alloc: Global, text: &str, column: &str) -> Result<Schema, SchemaTextFault> {
+    let names = one_text(alloc, column)?;
+    let text = Text::make(alloc, text)?;
+    read_schema(alloc, &text, &names)
+}
+
+/// The schema of a text.
+fn plain_schema(alloc: Global, text: &str) -> Result<Schema, SchemaTextFault> {
+    let text = Text::make(alloc, text)?;
+    read_schema(alloc, &text, &[])
+}
+
+/// Whether what a text was read as is written as the other.
+fn is_rewritten(
+    alloc: Global,
+    read: Result<Schema, SchemaTextFault>,
+    want: &str,
+) -> Result<bool, NoMemory> {
+    let Ok(schema) = read else {
+        return Ok(false);
+    };
+    let text = write_schema(alloc, &schema)?;
+    Ok(text.as_str() == want)
 }
 
 const LONG: &str =
@@ -71,136 +89,144 @@ const FOREIGN: &str =
 #[test]
 fn schemas_are_written_as_they_were_read(rt: HostRuntime) -> Result<(), Fail> {
     let alloc = rt.alloc();
-    assert!(rt; rewritten(alloc, LONG, false)?.as_str() == LONG);
-    assert!(rt; rewritten(alloc, FIVE, true)?.as_str() == FIVE);
-    assert!(rt; rewritten(alloc, FOREIGN, false)?.as_str() == LONG);
+    assert!(rt; is_rewritten(alloc, plain_schema(alloc, LONG), LONG)?);
+    assert!(rt; is_rewritten(alloc, parted_schema(alloc, FIVE, "p"), FIVE)?);
+    assert!(rt; is_rewritten(alloc, plain_schema(alloc, FOREIGN), LONG)?);
     Ok(())
 }
 
+const SCHEMAS: [(&str, Outcome); 8] = [
+    (r#"{"type":"struct","fields":[]}"#, Outcome::Shape),
+    (
+        r#"{"type":"map","fields":[{"name":"c","type":"long","nullable":true,"metadata":{}}]}"#,
+        Outcome::Shape,
+    ),
+    (
+        r#"{"type":"struct","fields":[{"name":"c","type":"decimal(5,2)","nullable":true,"metadata":{}}]}"#,
+        Outcome::Kind,
+    ),
+    (
+        r#"{"type":"struct","fields":[{"name":"c","type":{"type":"array"},"nullable":true,"metadata":{}}]}"#,
+        Outcome::Kind,
+    ),
+    (
+        r#"{"type":"struct","fields":[{"name":"c","type":7,"nullable":true,"metadata":{}}]}"#,
+        Outcome::Shape,
+    ),
+    (
+        r#"{"type":"struct","fields":[{"name":"c","type":"long","nullable":"true","metadata":{}}]}"#,
+        Outcome::Shape,
+    ),
+    (
+        r#"{"type":"struct","fields":[{"name":"c","type":"long","nullable":true,"metadata":[]}]}"#,
+        Outcome::Shape,
+    ),
+    (
+        r#"{"type":"struct","fields":[{"name":"c","type":"long","nullable":true,"metadata":{"delta.invariants":"{}"}}]}"#,
+        Outcome::Invariant,
+    ),
+];
+
 #[test]
 fn foreign_schemas(rt: HostRuntime) {
-    for (text, wanted) in [
-        (r#"{"type":"struct","fields":[]}"#, Outcome::Shape),
-        (
-            r#"{"type":"map","fields":[{"name":"c","type":"long","nullable":true,"metadata":{}}]}"#,
-            Outcome::Shape,
-        ),
-        (
-            r#"{"type":"struct","fields":[{"name":"c","type":"decimal(5,2)","nullable":true,"metadata":{}}]}"#,
-            Outcome::Kind,
-        ),
-        (
-            r#"{"type":"struct","fields":[{"name":"c","type":{"type":"array"},"nullable":true,"metadata":{}}]}"#,
-            Outcome::Kind,
-        ),
-        (
-            r#"{"type":"struct","fields":[{"name":"c","type":7,"nullable":true,"metadata":{}}]}"#,
-            Outcome::Shape,
-        ),
-        (
-            r#"{"type":"struct","fields":[{"name":"c","type":"long","nullable":"true","metadata":{}}]}"#,
-            Outcome::Shape,
-        ),
-        (
-            r#"{"type":"struct","fields":[{"name":"c","type":"long","nullable":true,"metadata":[]}]}"#,
-            Outcome::Shape,
-        ),
-        (
-            r#"{"type":"struct","fields":[{"name":"c","type":"long","nullable":true,"metadata":{"delta.invariants":"{}"}}]}"#,
-            Outcome::Invariant,
-        ),
-    ] {
-        assert!(rt; ending(rt.alloc(), text, false) == wanted);
+    for (text, wanted) in SCHEMAS {
+        assert!(rt; outcome_of(plain_schema(rt.alloc(), text)) == wanted);
     }
 }
 
+/// Schemas with two faults each.
+const FAULTS: [(&str, Outcome); 3] = [
+    (
+        r#"{"type":"struct","fields":[{"name":"c","type":"decimal(5,2)","nullable":true,"metadata":{"delta.invariants":"{}"}},{"name":"v"}]}"#,
+        Outcome::Kind,
+    ),
+    (
+        r#"{"type":"struct","fields":[{"name":"c","type":"long","nullable":true,"metadata":{"delta.invariants":"{}"}},{"name":"v","type":"void","nullable":true,"metadata":{}}]}"#,
+        Outcome::Invariant,
+    ),
+    (
+        r#"{"type":"struct","fields":[{"name":"v","type":"long","nullable":true,"metadata":{}},{"name":"v","type":"void","nullable":true,"metadata":{}}]}"#,
+        Outcome::Shape,
+    ),
+];
+
 #[test]
 fn the_first_fault_by_place(rt: HostRuntime) {
-    for (text, wanted) in [
-        (
-            r#"{"type":"struct","fields":[{"name":"c","type":"decimal(5,2)","nullable":true,"metadata":{"delta.invariants":"{}"}},{"name":"v"}]}"#,
-            Outcome::Kind,
-        ),
-        (
-            r#"{"type":"struct","fields":[{"name":"c","type":"long","nullable":true,"metadata":{"delta.invariants":"{}"}},{"name":"v","type":"void","nullable":true,"metadata":{}}]}"#,
-            Outcome::Invariant,
-        ),
-        (
-            r#"{"type":"struct","fields":[{"name":"v","type":"long","nullable":true,"metadata":{}},{"name":"v","type":"void","nullable":true,"metadata":{}}]}"#,
-            Outcome::Shape,
-        ),
-    ] {
-        assert!(rt; ending(rt.alloc(), text, true) == wanted);
+    for (text, wanted) in FAULTS {
+        assert!(rt; outcome_of(parted_schema(rt.alloc(), text, "p")) == wanted);
     }
 }
 
 const PARTED: &str =
     r#"{"type":"struct","fields":[{"name":"c","type":"integer","nullable":false,"metadata":{}},{"name":"v","type":"long","nullable":true,"metadata":{}}]}"#;
 
-fn map_of(alloc: Global, column: &str, text: &str) -> Result<PartitionMap, NoMemory> {
-    let mut values = Vec::new(alloc);
-    let name = Text::make(alloc, column)?;
+fn entry(alloc: Global, text: &str) -> Result<Entry<Option<Text>>, NoMemory> {
+    let name = Text::make(alloc, "c")?;
     let value = Some(Text::make(alloc, text)?);
-    values.push(Entry { name, value })?;
+    Ok(Entry { name, value })
+}
+
+/// The map that has this text for the column `c`.
+fn map_of(alloc: Global, text: &str) -> Result<PartitionMap, NoMemory> {
+    let entry = entry(alloc, text)?;
+    let mut values = Vec::new(alloc);
+    values.push(entry)?;
     Ok(Items::from_vec(values))
 }
 
-fn parted(alloc: Global) -> Result<Schema, SchemaTextFault> {
-    let mut names = Vec::new(alloc);
-    names.push(Text::make(alloc, "c")?)?;
-    let text = Text::make(alloc, PARTED)?;
-    read_schema(alloc, &text, &names)
+/// What a text of the column `c` is read as, an integer that is not null.
+fn value_read(alloc: Global, text: &str) -> Result<Row, SchemaTextFault> {
+    let values = map_of(alloc, text)?;
+    let schema = parted_schema(alloc, PARTED, "c")?;
+    read_partition(alloc, &schema, &values)
 }
 
-/// What comes of reading the text of the column `c`, an integer that is not null.
-fn value_ending(alloc: Global, text: &str) -> Result<Outcome, SchemaTextFault> {
-    let schema = parted(alloc)?;
-    let values = map_of(alloc, "c", text)?;
-    match read_partition(alloc, &schema, &values) {
-        Ok(_) => Ok(Outcome::Read),
-        Err(fault) => Ok(wrong(&fault)),
-    }
-}
+const VALUES: [(&str, Outcome); 8] = [
+    ("7", Outcome::Read),
+    ("-007", Outcome::Read),
+    ("2147483647", Outcome::Read),
+    ("2147483648", Outcome::Value),
+    ("+7", Outcome::Value),
+    ("-", Outcome::Value),
+    ("7.0", Outcome::Value),
+    ("", Outcome::Value),
+];
 
 #[test]
 fn integers_of_partitions(rt: HostRuntime) {
-    for (text, wanted) in [
-        ("7", Outcome::Read),
-        ("-007", Outcome::Read),
-        ("2147483647", Outcome::Read),
-        ("2147483648", Outcome::Value),
-        ("+7", Outcome::Value),
-        ("-", Outcome::Value),
-        ("7.0", Outcome::Value),
-        ("", Outcome::Value),
-    ] {
-        match value_ending(rt.alloc(), text) {
-            Ok(outcome) => assert!(rt; outcome == wanted),
-            Err(_) => assert!(rt; false),
-        }
+    for (text, wanted) in VALUES {
+        assert!(rt; outcome_of(value_read(rt.alloc(), text)) == wanted);
     }
 }
 
-/// The text that is written for what a text of the column `c` stands for.
-fn value_rewritten(alloc: Global, text: &str) -> Result<Text, SchemaTextFault> {
-    let schema = parted(alloc)?;
-    let row = read_partition(alloc, &schema, &map_of(alloc, "c", text)?)?;
-    let written = write_partition(alloc, &schema, &row)?;
+/// What is written for what a text of the column `c` stands for.
+fn value_written(alloc: Global, text: &str) -> Result<PartitionMap, SchemaTextFault> {
+    let values = map_of(alloc, text)?;
+    let schema = parted_schema(alloc, PARTED, "c")?;
+    let row = read_partition(alloc, &schema, &values)?;
+    Ok(write_partition(alloc, &schema, &row)?)
+}
+
+/// Whether this is the text of a value.
+fn is_value(value: &Option<Text>, want: &str) -> bool {
+    match value {
+        Some(text) => text.as_str() == want,
+        None => false,
+    }
+}
+
+/// Whether this is the only text in a map.
+fn is_alone(written: &PartitionMap, want: &str) -> bool {
     match written.as_slice() {
-        [
-            Entry {
-                value: Some(text),
-                ..
-            },
-        ] => Ok(text.copy()?),
-        _ => Ok(Text::make(alloc, "none")?),
+        [entry] => is_value(&entry.value, want),
+        _ => false,
     }
 }
 
 #[test]
 fn values_are_written_without_zeros(rt: HostRuntime) {
-    match value_rewritten(rt.alloc(), "-007") {
-        Ok(text) => assert!(rt; text.as_str() == "-7"),
+    match value_written(rt.alloc(), "-007") {
+        Ok(written) => assert!(rt; is_alone(&written, "-7")),
         Err(_) => assert!(rt; false),
     }
 }

@@ -10,4 +10,4 @@ pub use bound::{BySource, Change, MergeOp, MergeSpec, RowOp, Scope, SetTo};
 pub use log_actions::{Feature, LogFaultKind};
 pub use refusal::{Clash, ObjectFault, Refusal};
 pub use reply::{CheckpointOutcome, Reply, SessionReplies};
-pub use statement::{Statement, TableSpec};
+pub use statement::{Property, Statement, TableSpec};

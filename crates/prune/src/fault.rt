@@ -1,6 +1,7 @@
 //! Why a file has no facts.
 ghost use Rattle.std.specs.Prelude.{◌≡◌};
 ghost use Rattle.prune.specs.declared.fault.PartitionFault.TheVariants as faults;
+ghost use Rattle.prune.specs.Known.{fault_of};
 
 use row_base::{NoMemory, Text};
 use schema_text::SchemaTextFault;
@@ -22,15 +23,12 @@ impl From<NoMemory> for PartitionFault {
     }
 }
 
-impl From<SchemaTextFault> for PartitionFault {
-    ghost use Rattle.prune.specs.Known.{fault_of};
-
-    ghost from_gives = { λ s e. e ≡ fault_of s };
-
-    fn from(fault: SchemaTextFault) -> PartitionFault {
-        match fault {
-            SchemaTextFault::Value { name } => PartitionFault::Value { name },
-            _ => PartitionFault::NoMemory,
-        }
+/// The fault of a row of partition values.
+pub(crate) fn partition_fault(fault: SchemaTextFault) -> PartitionFault
+    ensures { result ≡ fault_of fault }
+{
+    match fault {
+        SchemaTextFault::Value { name } => PartitionFault::Value { name },
+        _ => PartitionFault::NoMemory,
     }
 }

@@ -7,7 +7,7 @@ ghost use Rattle.predicates.specs.Truths.{cell};
 ghost use Rattle.prune.specs.Known as spec;
 
 use crate::column::ColumnFacts;
-use crate::fault::PartitionFault;
+use crate::fault::{PartitionFault, partition_fault};
 use file_stats::{Stats, read_stats};
 use log_actions::{AddFile, PartitionMap};
 use row_base::{Datum, Items, NoMemory, Row, Schema, Text};
@@ -17,9 +17,7 @@ use std::marker::Model;
 
 /// What is known of the rows of a data file, column by column. Contracts see it as the list of what is known of each.
 #[derive(Debug, Drop)]
-pub struct FileFacts {
-    columns: Vec<ColumnFacts>,
-}
+pub struct FileFacts(Items<ColumnFacts>);
 
 impl Model for FileFacts {
     ghost use Rattle.std.specs.Prelude.{List};
@@ -27,7 +25,7 @@ impl Model for FileFacts {
 
     ghost Value = { List ColumnFacts };
 
-    ghost view = { λ a. a.columns.items };
+    ghost view = { λ a. a.0 };
 }
 
 impl FileFacts {
@@ -42,14 +40,14 @@ impl FileFacts {
         let values = values_of(alloc, schema, &add.partition_values)?;
         let stats = stats_said(alloc, schema, &add.stats)?;
         let columns = columns_of(alloc, schema, values.as_slice(), &stats)?;
-        Ok(FileFacts { columns })
+        Ok(FileFacts(columns))
     }
 
     /// The facts of each column.
     pub(crate) fn columns(&self) -> &[ColumnFacts]
         ensures { result.now ≡ self.now }
     {
-        self.columns.as_slice()
+        self.0.as_slice()
     }
 }
 
@@ -57,8 +55,10 @@ impl FileFacts {
 fn values_of(alloc: Global, schema: &Schema, values: &PartitionMap) -> Result<Row, PartitionFault>
     ensures { Reads spec.is_memory result (spec.values_in schema.now values.now) }
 {
-    let row = read_partition(alloc, schema, values)?;
-    Ok(row)
+    match read_partition(alloc, schema, values) {
+        Ok(row) => Ok(row),
+        Err(fault) => Err(partition_fault(fault)),
+    }
 }
 
 /// What a text of statistics says, where there is one and it is a JSON object.
@@ -140,12 +140,12 @@ fn columns_of(
     schema: &Schema,
     values: &[Datum],
     stats: &Stats,
-) -> Result<Vec<ColumnFacts>, NoMemory>
-    ensures { IfOk result (λ v. v.items ≡ spec.facts_of schema.now values.now stats.now) }
+) -> Result<Items<ColumnFacts>, NoMemory>
+    ensures { IfOk result (λ fs. fs ≡ spec.facts_of schema.now values.now stats.now) }
 {
     let mut columns = Vec::with_capacity(alloc, schema.columns().len())?;
     for (i, _column) in schema.columns().iter().enumerate() {
         columns.push(column_facts(schema, values, stats, i as u32)?)?;
     }
-    Ok(columns)
+    Ok(Items::from_vec(columns))
 }

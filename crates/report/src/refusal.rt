@@ -7,7 +7,7 @@ ghost use Rattle.report.specs.Replies as spec;
 use crate::printer::Printer;
 use edge_api::{CallKind, Called, Name};
 use op_types::{Clash, Feature, LogFaultKind, ObjectFault, Refusal};
-use row_base::NoMemory;
+use row_base::{NoMemory, Text};
 
 fn push_kind(out: &mut Printer, kind: CallKind) -> Result<(), NoMemory>
     ensures { OnOk result (out.new ≡ out.old ++ spec.kind_text kind) }
@@ -47,11 +47,11 @@ fn push_two_numbers(out: &mut Printer, word: &[u8], first: u64, second: u64) -> 
     Ok(())
 }
 
-fn push_behind_word(out: &mut Printer, word: &[u8], text: &[u8]) -> Result<(), NoMemory>
+fn push_behind_word(out: &mut Printer, word: &[u8], text: &Text) -> Result<(), NoMemory>
     ensures { OnOk result (out.new ≡ out.old ++ (word.now ++ text.now)) }
 {
     out.push(word)?;
-    out.push(text)?;
+    out.push(text.as_bytes())?;
     Ok(())
 }
 
@@ -70,14 +70,14 @@ fn push_feature(out: &mut Printer, feature: &Feature) -> Result<(), NoMemory>
         Feature::Protocol { reader, writer } => {
             push_two_numbers(out, b"protocol ", *reader, *writer)
         }
-        Feature::Named { name } => push_behind_word(out, b"feature ", name.as_bytes()),
-        Feature::Property { key } => push_behind_word(out, b"property ", key.as_bytes()),
+        Feature::Named { name } => push_behind_word(out, b"feature ", name),
+        Feature::Property { key } => push_behind_word(out, b"property ", key),
         Feature::AbsolutePath => out.push(b"absolute path"),
         Feature::DeletionVector => out.push(b"deletion vector"),
         Feature::Codec { codec } => push_code(out, b"codec ", *codec),
         Feature::Encoding { encoding } => push_code(out, b"encoding ", *encoding),
         Feature::PageKind { kind } => push_code(out, b"page type ", *kind),
-        Feature::ColumnType { name } => push_behind_word(out, b"column type ", name.as_bytes()),
+        Feature::ColumnType { name } => push_behind_word(out, b"column type ", name),
         Feature::CheckpointForm => out.push(b"checkpoint form"),
         Feature::Sidecar => out.push(b"sidecar"),
         Feature::NestedColumns => out.push(b"nested columns"),
@@ -121,7 +121,9 @@ fn push_fault(out: &mut Printer, fault: &ObjectFault) -> Result<(), NoMemory>
 fn push_named(out: &mut Printer, word: &[u8], name: &Name) -> Result<(), NoMemory>
     ensures { OnOk result (out.new ≡ out.old ++ (word.now ++ name.now)) }
 {
-    push_behind_word(out, word, name.as_bytes())
+    out.push(word)?;
+    out.push(name.as_bytes())?;
+    Ok(())
 }
 
 fn push_conflict(out: &mut Printer, winner: u64, clash: Clash) -> Result<(), NoMemory>

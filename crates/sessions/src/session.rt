@@ -124,27 +124,8 @@ impl Session {
         ensures fresh { IfOk result (λ s. IsBetween actor (progress_of s)) }
         ensures starts { IfOk result (λ s. (es : Entries) (all : List AReply) → Remains s es all → AnsweredTo kill (plans_from actor limit 1 statements.items) es all) }
     {
-        let mut session = Session::idle(alloc, actor, statements, limit)?;
-        session.kill = kill;
-        session.start();
-        Ok(session)
-    }
-
-    /// A session before its first statement, which is never killed.
-    fn idle(
-        alloc: Global,
-        actor: u16,
-        statements: Vec<Statement>,
-        limit: u32,
-    ) -> Result<Session, NoMemory>
-        requires limit { IsLimit limit }
-        requires few { length statements.items ≤ MAX_STATEMENTS }
-        ensures idle { IfOk result IsIdle }
-        ensures actor { IfOk result (λ s. s.actor ≡ actor) }
-        ensures plans { IfOk result (λ s. later_plans s ≡ plans_from actor limit 1 statements.items) }
-    {
         let replies = Vec::with_capacity(alloc, statements.len())?;
-        Ok(Session {
+        let mut session = Session {
             alloc,
             actor,
             limit,
@@ -152,8 +133,10 @@ impl Session {
             later: VecDeque::from_vec(statements),
             current: None,
             replies,
-            kill: None,
-        })
+            kill,
+        };
+        session.start();
+        Ok(session)
     }
 
     /// Sets out with the first statement, if there is one.

@@ -74,21 +74,40 @@ fn either(alloc: Global, left: Pred<Text>, right: Pred<Text>) -> Result<Pred<Tex
 const ONE_TO_FIVE: &str =
     r#"{"maxValues":{"v":5},"minValues":{"v":1},"nullCount":{"v":0},"numRecords":3}"#;
 
+/// Whether a file may match `v` compared with a number, or what that is not.
+fn matches_number(
+    alloc: Global,
+    schema: &Schema,
+    add: &AddFile,
+    op: Op,
+    number: i64,
+    is_negated: bool,
+) -> Result<bool, Fail> {
+    let pred = compared(alloc, "v", op, Datum::Long(number))?;
+    if is_negated {
+        let pred = negated(alloc, pred)?;
+        matches(alloc, schema, &pred, add)
+    } else {
+        matches(alloc, schema, &pred, add)
+    }
+}
+
+/// The same of `v is null`.
+fn matches_null(alloc: Global, schema: &Schema, add: &AddFile) -> Result<bool, Fail> {
+    let column = Text::make(alloc, "v")?;
+    let pred = Pred::IsNull { column };
+    matches(alloc, schema, &pred, add)
+}
+
 #[test]
 fn a_file_from_one_to_five(rt: HostRuntime) -> Result<(), Fail> {
     let alloc = rt.alloc();
     let schema = Schema::make(two_columns(alloc, Kind::Long)?, Vec::new(alloc))?;
     let add = added(alloc, ONE_TO_FIVE, "")?;
-    let six = compared(alloc, "v", Op::Eq, Datum::Long(6))?;
-    assert!(rt; !matches(alloc, &schema, &six, &add)?);
-    let other = negated(alloc, six)?;
-    assert!(rt; matches(alloc, &schema, &other, &add)?);
-    let null = Pred::IsNull {
-        column: Text::make(alloc, "v")?,
-    };
-    assert!(rt; !matches(alloc, &schema, &null, &add)?);
-    let five = compared(alloc, "v", Op::Ge, Datum::Long(5))?;
-    assert!(rt; matches(alloc, &schema, &five, &add)?);
+    assert!(rt; !matches_number(alloc, &schema, &add, Op::Eq, 6, false)?);
+    assert!(rt; matches_number(alloc, &schema, &add, Op::Eq, 6, true)?);
+    assert!(rt; !matches_null(alloc, &schema, &add)?);
+    assert!(rt; matches_number(alloc, &schema, &add, Op::Ge, 5, false)?);
     Ok(())
 }
 

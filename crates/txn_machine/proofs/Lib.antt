@@ -1,4 +1,5 @@
 mod Chain
 mod Listings
 pub mod Places
+mod Stages
 mod Versions

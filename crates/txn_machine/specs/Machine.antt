@@ -1,5 +1,5 @@
 -- Where a statement stands: one phase, and what follows it.
-use Rattle.std.specs.Prelude.{◌≡◌, ℕ, ◌+◌, List, [], Option, Some, None, Bool, true, false, is_some}
+use Rattle.std.specs.Prelude.{◌≡◌, ℕ, ◌+◌, ◌≤◌, List, [], Option, Some, None, Bool, true, false, is_some}
 use Rattle.edge_api.specs.declared.call.Call.{Call}
 use Rattle.edge_api.specs.declared.call.Listed.{Listed}
 use Rattle.op_types.specs.declared.refusal.ObjectFault.{ObjectFault}
@@ -11,7 +11,9 @@ use Rattle.call_phases.specs.Request as request
 use Rattle.call_phases.specs.Requests.{reading_call, prefix_call, ReadingRest, PrefixRest}
 use Rattle.call_phases.specs.GetsAt as gets
 use Rattle.call_phases.specs.Puts as puts
+use Rattle.call_phases.specs.Machine.{LeftBy}
 use Rattle.call_phases.specs.Step.{Steps}
+use Rattle.call_phases.specs.declared.phase.Ready.{Ready}
 use Rattle.call_phases.specs.declared.fault.CallFault.{CallFault}
 use Rattle.call_phases.specs.declared.gets.GetFault.{GetFault}
 use Rattle.call_phases.specs.declared.puts.PutFault.{PutFault}
@@ -127,3 +129,11 @@ Rest (stage.Scan s g) es out = Steps (gets.RestAt wanted_file files_after g.stag
 Rest (stage.Data s p) es out = Steps (puts.RestAt p.stage) (ByPut s.kept) (NextData s) es out
 Rest (stage.Commit s a) es out = Steps (attempts.RestOf Makes Says a) (ByAttempt s.kept) (NextCommit s) es out
 Rest (stage.Done f) es out = (es ≡ []) × (out ≡ Some f)
+
+-- the statement goes on at this stage, whose next call is made ready: with so many answers at most, and with what may come
+pub record GoesOn (most : ℕ) (next : Option Finish → Entries → Type 0) (r : Ready Stage) : Type 0 where
+  pub ready : r.call ≡ call_of r.stage
+  pub settled : is_settled r.stage ≡ true
+  pub left : left_of r.stage ≤ most
+  pub some : LeftBy (left_of r.stage) r.call
+  pub may : (es : Entries) (out : Option Finish) → Rest r.stage es out → next out es

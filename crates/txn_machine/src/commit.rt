@@ -1,13 +1,10 @@
 //! The commit of a statement is attempted.
-ghost use Rattle.std.specs.Prelude.{◌≡◌, ◌<◌, ◌≤◌, true, is_none, Option, IfSome};
-ghost use Rattle.call_phases.specs.Phases.{Entries};
-ghost use Rattle.call_phases.specs.Machine.{LeftBy};
+ghost use Rattle.std.specs.Prelude.{◌≡◌, ◌<◌, is_none, IfSome};
 ghost use Rattle.committer.specs.Machine.{first_after};
-ghost use Rattle.statement_calls.specs.declared.finish.Finish.{Finish as AFinish};
 ghost use Rattle.statement_calls.specs.Bounds.{version_limit, most_attempts};
 ghost use Rattle.statement_calls.specs.Outcome.{refusal_of_attempt};
 ghost use Rattle.statement_calls.specs.Answered.{AtCommit};
-ghost use Rattle.txn_machine.specs.Machine.{landed_after, call_of, left_of, is_settled, Rest};
+ghost use Rattle.txn_machine.specs.Machine.{landed_after, GoesOn};
 
 use crate::{CommitJudge, Plan, Stage};
 use call_phases::{Ready, Step, go};
@@ -93,12 +90,7 @@ impl CommitStep {
         read: Option<u64>,
     ) -> Ready<Stage>
         requires { IfSome read (λ version. version < version_limit) }
-        ensures ready { result.call ≡ call_of result.stage }
-        ensures settled { is_settled result.stage ≡ true }
-        ensures left { left_of result.stage ≤ most_attempts }
-        ensures some { LeftBy (left_of result.stage) result.call }
-        ensures may { (es : Entries) (out : Option AFinish) → Rest result.stage es out
-            → AtCommit plan.tag plan.limit out kept start (first_after read) (record { text = text; makes_table = is_none read }) (landed_after read) es }
+        ensures { GoesOn most_attempts (λ out. AtCommit plan.tag plan.limit out kept start (first_after read) (record { text = text; makes_table = is_none read }) (landed_after read)) result }
     {
         let judge = CommitJudge {
             text,

@@ -1,16 +1,11 @@
 //! An insert: its data file is put, and then its commit is attempted.
-ghost use Rattle.std.specs.Prelude.{◌≡◌, ◌≤◌, ◌+◌, [], ◌∷◌, true, ℕ, Option, IfOk};
-ghost use Rattle.row_base.specs.declared.row.Datum.{Datum};
+ghost use Rattle.std.specs.Prelude.{◌≡◌, ◌+◌, [], ◌∷◌, IfOk};
 ghost use Rattle.table_rules.specs.Names.{data_text};
 ghost use Rattle.line_texts.specs.Texts.{text_of_add, text_of_rows};
-ghost use Rattle.snapshot_replay.specs.Table.{Snapshot};
-ghost use Rattle.call_phases.specs.Phases.{Entries};
-ghost use Rattle.call_phases.specs.Machine.{LeftBy};
-ghost use Rattle.statement_calls.specs.declared.finish.Finish.{Finish as AFinish};
 ghost use Rattle.statement_calls.specs.Bounds.{most_puts, most_attempts};
 ghost use Rattle.statement_calls.specs.Outcome.{refusal_of_put};
 ghost use Rattle.statement_calls.specs.Answered.{Appends};
-ghost use Rattle.txn_machine.specs.Machine.{call_of, left_of, is_settled, Rest};
+ghost use Rattle.txn_machine.specs.Machine.{GoesOn};
 
 use crate::{CommitStep, Plan, Stage, Supported};
 use call_phases::{File, PutFault, Puts, Ready, Step, go};
@@ -110,11 +105,7 @@ impl DataStep {
         start: u64,
         read: Supported,
     ) -> Ready<Stage>
-        ensures ready { result.call ≡ call_of result.stage }
-        ensures settled { is_settled result.stage ≡ true }
-        ensures left { left_of result.stage ≤ most_puts + most_attempts }
-        ensures some { LeftBy (left_of result.stage) result.call }
-        ensures may { (es : Entries) (out : Option AFinish) → Rest result.stage es out → Appends plan.tag plan.limit out rows.now kept start read.version es }
+        ensures { GoesOn (most_puts + most_attempts) (λ out. Appends plan.tag plan.limit out rows.now kept start read.version) result }
     {
         match append_of(plan, start, rows) {
             Ok((text, files)) => {

@@ -1,14 +1,11 @@
 //! The steps that all statements share: the clock is read, the log is listed, and the commits are loaded.
-ghost use Rattle.std.specs.Prelude.{◌≡◌, ◌≤◌, ◌⊎◌, true, Option, None, Some};
-ghost use Rattle.call_phases.specs.Phases.{Entries};
-ghost use Rattle.call_phases.specs.Machine.{LeftBy};
+ghost use Rattle.std.specs.Prelude.{◌≡◌, ◌⊎◌};
 ghost use Rattle.table_rules.specs.Names.{commit_text};
 ghost use Rattle.op_types.specs.declared.refusal.Refusal.TheVariants as refusal;
-ghost use Rattle.statement_calls.specs.declared.finish.Finish.{Finish as AFinish};
 ghost use Rattle.statement_calls.specs.Bounds.{most_after_list};
 ghost use Rattle.statement_calls.specs.Outcome.{refusal_of_call, refusal_of_load};
 ghost use Rattle.statement_calls.specs.Answered.{base_of, AtLoad, LoadsFrom, Loads};
-ghost use Rattle.txn_machine.specs.Machine.{call_of, left_of, is_settled, Rest};
+ghost use Rattle.txn_machine.specs.Machine.{GoesOn};
 
 use crate::commits::{Base, kept_of};
 use crate::listing::{missing_for, newest_version};
@@ -175,11 +172,7 @@ impl LoadStep {
         start: u64,
         read: Supported,
     ) -> Ready<Stage>
-        ensures ready { result.call ≡ call_of result.stage }
-        ensures settled { is_settled result.stage ≡ true }
-        ensures left { left_of result.stage ≤ most_after_list }
-        ensures some { LeftBy (left_of result.stage) result.call }
-        ensures may { (es : Entries) (out : Option AFinish) → Rest result.stage es out → AtLoad plan.tag plan.limit out statement start read.version (base_of kept read.version) es }
+        ensures { GoesOn most_after_list (λ out. AtLoad plan.tag plan.limit out statement start read.version (base_of kept read.version)) result }
     {
         let base = Base::make(plan.alloc, kept, read);
         let step = LoadStep {
@@ -201,11 +194,7 @@ impl LoadStep {
         listing: &[Listed],
         read: Supported,
     ) -> Ready<Stage>
-        ensures ready { result.call ≡ call_of result.stage }
-        ensures settled { is_settled result.stage ≡ true }
-        ensures left { left_of result.stage ≤ most_after_list }
-        ensures some { LeftBy (left_of result.stage) result.call }
-        ensures may { (es : Entries) (out : Option AFinish) → Rest result.stage es out → LoadsFrom plan.tag plan.limit out statement start listing.now kept read.version (base_of kept read.version) es }
+        ensures { GoesOn most_after_list (λ out. LoadsFrom plan.tag plan.limit out statement start listing.now kept read.version (base_of kept read.version)) result }
     {
         match missing_for(plan.alloc, listing, &kept, read) {
             Ok(None) => LoadStep::begin(plan, statement, kept, start, read),
@@ -223,11 +212,7 @@ impl LoadStep {
         listing: &[Listed],
         newest: Option<u64>,
     ) -> Ready<Stage>
-        ensures ready { result.call ≡ call_of result.stage }
-        ensures settled { is_settled result.stage ≡ true }
-        ensures left { left_of result.stage ≤ most_after_list }
-        ensures some { LeftBy (left_of result.stage) result.call }
-        ensures may { (es : Entries) (out : Option AFinish) → Rest result.stage es out → Loads plan.tag plan.limit out statement start listing.now kept newest es }
+        ensures { GoesOn most_after_list (λ out. Loads plan.tag plan.limit out statement start listing.now kept newest) result }
     {
         let Some(version) = newest else {
             return Stage::refused(kept, Refusal::NoTable);

@@ -1,14 +1,11 @@
 //! A select: the live files are got, and their rows are the reply.
-ghost use Rattle.std.specs.Prelude.{◌≡◌, ◌≤◌, true, Option, Some, IfOk};
+ghost use Rattle.std.specs.Prelude.{◌≡◌, Some, IfOk};
 ghost use Rattle.row_base.specs.Sorting.{Sorts};
-ghost use Rattle.call_phases.specs.Phases.{Entries};
-ghost use Rattle.call_phases.specs.Machine.{LeftBy};
-ghost use Rattle.statement_calls.specs.declared.finish.Finish.{Finish as AFinish};
 ghost use Rattle.statement_calls.specs.Bounds.{most_files};
 ghost use Rattle.statement_calls.specs.Outcome.{refusal_of_scan};
 ghost use Rattle.statement_calls.specs.Answered.{rows_of_files, Selects};
 ghost use Rattle.txn_machine.specs.Readers.{kept_of};
-ghost use Rattle.txn_machine.specs.Machine.{call_of, left_of, is_settled, Rest};
+ghost use Rattle.txn_machine.specs.Machine.{GoesOn};
 
 use crate::commits::kept_of;
 use crate::files::{Paths, no_files};
@@ -102,11 +99,7 @@ impl Step for ScanStep {
 impl ScanStep {
     /// The live files of the table that was loaded are got.
     pub fn begin(plan: Plan, table: State, spare: Option<Kept>, read: Supported) -> Ready<Stage>
-        ensures ready { result.call ≡ call_of result.stage }
-        ensures settled { is_settled result.stage ≡ true }
-        ensures left { left_of result.stage ≤ most_files }
-        ensures some { LeftBy (left_of result.stage) result.call }
-        ensures may { (es : Entries) (out : Option AFinish) → Rest result.stage es out → Selects plan.tag plan.limit out table (Some (kept_of spare read.version table)) read.version es }
+        ensures { GoesOn most_files (λ out. Selects plan.tag plan.limit out table (Some (kept_of spare read.version table)) read.version) result }
     {
         let live = table.file_count() as u64;
         let paths = table.paths(plan.alloc);

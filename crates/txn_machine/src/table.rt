@@ -1,13 +1,10 @@
 //! A table is made: a commit at version 0, where none is listed.
-ghost use Rattle.std.specs.Prelude.{◌≡◌, ◌≤◌, true, Option, IfOk};
+ghost use Rattle.std.specs.Prelude.{◌≡◌, true, IfOk};
 ghost use Rattle.op_types.specs.declared.reply.Reply.TheVariants.{Created};
 ghost use Rattle.line_texts.specs.Texts.{text_of_columns};
-ghost use Rattle.call_phases.specs.Phases.{Entries};
-ghost use Rattle.call_phases.specs.Machine.{LeftBy};
-ghost use Rattle.statement_calls.specs.declared.finish.Finish.{Finish as AFinish};
 ghost use Rattle.statement_calls.specs.Bounds.{most_attempts};
 ghost use Rattle.statement_calls.specs.Answered.{names_of, AtCommit, Makes};
-ghost use Rattle.txn_machine.specs.Machine.{call_of, left_of, is_settled, Rest};
+ghost use Rattle.txn_machine.specs.Machine.{GoesOn};
 
 use crate::{CommitStep, Plan, Stage};
 use call_phases::Ready;
@@ -40,12 +37,7 @@ fn table_text(alloc: Global, columns: &[Column]) -> Result<Body, NoMemory>
 
 /// The commit that makes the table is attempted.
 fn commits(plan: Plan, spec: &TableSpec, kept: Option<Kept>, start: u64) -> Ready<Stage>
-    ensures ready { result.call ≡ call_of result.stage }
-    ensures settled { is_settled result.stage ≡ true }
-    ensures left { left_of result.stage ≤ most_attempts }
-    ensures some { LeftBy (left_of result.stage) result.call }
-    ensures may { (es : Entries) (out : Option AFinish) → Rest result.stage es out
-        → AtCommit plan.tag plan.limit out kept start 0 (record { text = text_of_columns (names_of spec.now.columns); makes_table = true }) (λ l. Created) es }
+    ensures { GoesOn most_attempts (λ out. AtCommit plan.tag plan.limit out kept start 0 (record { text = text_of_columns (names_of spec.now.columns); makes_table = true }) (λ l. Created)) result }
 {
     match table_text(plan.alloc, spec.columns.as_slice()) {
         Ok(text) => CommitStep::begin(plan, text, kept, start, None),
@@ -61,11 +53,7 @@ pub fn makes(
     start: u64,
     newest: Option<u64>,
 ) -> Ready<Stage>
-    ensures ready { result.call ≡ call_of result.stage }
-    ensures settled { is_settled result.stage ≡ true }
-    ensures left { left_of result.stage ≤ most_attempts }
-    ensures some { LeftBy (left_of result.stage) result.call }
-    ensures may { (es : Entries) (out : Option AFinish) → Rest result.stage es out → Makes plan.tag plan.limit out spec.now.columns start kept newest es }
+    ensures { GoesOn most_attempts (λ out. Makes plan.tag plan.limit out spec.now.columns start kept newest) result }
 {
     match newest {
         None => commits(plan, spec, kept, start),

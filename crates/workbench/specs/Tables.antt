@@ -3,6 +3,7 @@ use Rattle.std.specs.Prelude.{◌≡◌, ◌⊎◌, ℕ, suc, ◌<◌, ◌/◌, 
 use Rattle.std.specs.Fmt.{decimal}
 use Rattle.std.specs.List.{range_with_len}
 use Rattle.row_base.specs.Schema.{TableSchema}
+use Rattle.row_base.specs.declared.limits.TheConstants.{MAX_FILE_ROWS, MAX_OBJECT_BYTES}
 use Rattle.row_base.specs.declared.row.Datum.{Datum}
 use Rattle.row_base.specs.declared.row.Datum.TheVariants as datum
 use Rattle.row_base.specs.declared.row.Kind.{Kind}
@@ -77,8 +78,8 @@ answer_of steps.Read table count = count
 -- why nothing is given: memory ran out, a file doesn't hold so many rows, or what was written is too long to be read
 abbrev pub IsFailure : Table → ℕ → Failed → Type 0
 IsFailure table count failed.NoMemory = Unit {0}
-IsFailure table count failed.Rows = 16777216 < count
-IsFailure table count (failed.Parquet fault) = (fault ≡ faults.NoMemory) ⊎ (67108864 < length (file_text (schema_of table) (rows_of table count)))
+IsFailure table count failed.Rows = MAX_FILE_ROWS < count
+IsFailure table count (failed.Parquet fault) = (fault ≡ faults.NoMemory) ⊎ (MAX_OBJECT_BYTES < length (file_text (schema_of table) (rows_of table count)))
 IsFailure table count (failed.Words fault) = ⊥
 IsFailure table count (failed.Kernel fault) = ⊥
 IsFailure table count (failed.Line line) = ⊥

@@ -6,10 +6,18 @@ use Rattle.txn_machine.specs.Machine.{landed_after}
 use Rattle.txn_machine.proofs.Chain.{then_commit}
 use Rattle.txn_machine.proofs.commit.CommitStep.begin.Goals as goal
 
-pub returns-clause-may : goal.returns-clause-may
-returns-clause-may c es out h =
+pub returns : goal.returns
+returns c =
     let a = c.args in
-    let s = c.go.ensures.may es out h in
+    let go = c.go.ensures in
     let same : c.is_none.result ≡ is_none a.read = search rules in
-    subst (λ (b : Bool). AtCommit a.plan.tag a.plan.limit out a.kept a.start (first_after a.read) (record { text = a.text; makes_table = b }) (landed_after a.read) es) same
-    (then_commit a.plan.tag a.plan.limit out a.kept a.start (first_after a.read) _ (landed_after a.read) es (s.0, c.new-attempts.ensures.leads es s.0 s.1, s.2))
+    record {
+      ready = go.ready;
+      settled = go.settled;
+      left = search rules;
+      some = go.some;
+      may = λ es out h.
+          let s = go.may es out h in
+          subst (λ (b : Bool). AtCommit a.plan.tag a.plan.limit out a.kept a.start (first_after a.read) (record { text = a.text; makes_table = b }) (landed_after a.read) es) same
+          (then_commit a.plan.tag a.plan.limit out a.kept a.start (first_after a.read) _ (landed_after a.read) es (s.0, c.new-attempts.ensures.leads es s.0 s.1, s.2));
+    }

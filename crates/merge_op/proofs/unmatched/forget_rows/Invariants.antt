@@ -1,0 +1,15 @@
+-- What is under each key once the keys of the rows that are left are taken out too; their columns are there.
+use Rattle.std.proofs.Common.{◌≡◌, List, true, length, nat_lt}
+use Rattle.std.specs.Prelude.{None, if◌then◌else◌}
+use Rattle.std.specs.BTreeMap.{get}
+use Rattle.std.specs.List.{list_all, list_any}
+use Rattle.row_base.specs.RowOrder.{row_cmp}
+use Rattle.row_base.specs.declared.row.Datum.{Datum}
+use Rattle.merge_op.specs.Found.{has_key}
+use Rattle.merge_op.proofs.unmatched.forget_rows.Given as goal
+
+abbrev pub invariant-loop-row : goal.invariant-loop-row
+invariant-loop-row l = record {
+  found : (q : List Datum) → (if list_any (has_key l.keys q) l.row-iterator then None else get row_cmp l.keyed q) ≡ (if list_any (has_key l.keys q) l.rows then None else get row_cmp l.fn.keyed q);
+  bound : list_all (λ s. list_all (λ c. nat_lt c (length s)) l.keys) l.row-iterator ≡ true;
+}

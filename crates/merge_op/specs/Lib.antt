@@ -1,0 +1,4 @@
+pub mod Found
+pub mod Matches
+pub mod Merges
+pub mod Operations

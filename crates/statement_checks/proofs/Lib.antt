@@ -1,0 +1,5 @@
+mod Bound
+mod Fitting
+mod Narrow
+mod Partitions
+mod Read

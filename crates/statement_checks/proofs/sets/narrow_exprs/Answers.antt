@@ -1,0 +1,6 @@
+use Rattle.std.proofs.Common.{length}
+use Rattle.statement_checks.proofs.Narrow.{plain_exprs_need_none}
+use Rattle.statement_checks.proofs.sets.narrow_exprs.Goals as goal
+
+pub returns-clause-plain : goal.returns-clause-plain
+returns-clause-plain c = λ plain. plain_exprs_need_none (length c.args.schema.now.columns) c.args.schema.now.columns c.args.columns.now c.args.exprs.now c.in_ok-bound.bound c.in_ok-bound.ensures.read plain c.in_ok-bound.ensures.bound
