@@ -1,7 +1,5 @@
-//! Tests of statistics and of what files may match.
+//! Tests of the statistics of files.
 #![tactic(auto)]
 
-#[cfg(test)]
-mod pruning;
 #[cfg(test)]
 mod statistics;
