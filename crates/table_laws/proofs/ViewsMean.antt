@@ -12,13 +12,15 @@ use Rattle.edge_api.specs.declared.call.Listed.{Listed}
 use Rattle.edge_api.specs.declared.call.Object.{Object}
 use Rattle.edge_api.specs.Journal.{Objects, Moment, same_tag, entries_of, object_at}
 use Rattle.table_rules.specs.Names.{log_prefix, commit_text}
+use Rattle.table_rules.specs.Properties.{entry_of}
 use Rattle.table_rules.proofs.Names.{commit_is_read, commits_differ}
 use Rattle.line_texts.proofs.Laws.{columns_read_back}
 use Rattle.snapshot_replay.specs.Table.{table_commit}
 use Rattle.statement_calls.specs.Listing.{commit_of, later, newest}
 use Rattle.actor_core.specs.Entries.{own}
 use Rattle.actor_core.proofs.Owners.{same_tag_is}
-use Rattle.table_changes.specs.Table.{Commit, level_of}
+use Rattle.table_changes.specs.Table.{Commit, WriteSerializable, level_of}
+use Rattle.table_laws.specs.Commits.{meta_of}
 use Rattle.table_laws.specs.History.{Put, put_under, put_if_free, body_of, history}
 use Rattle.table_laws.specs.Runs.{or_first, listed_by, version_read}
 use Rattle.table_laws.specs.Views.{IsNewest, IsLater, PutOnce}
@@ -145,6 +147,11 @@ twice_refuted h =
     let both : PutOnce (put_of first 0 ∷ put_of second 0 ∷ []) = subst (λ (b : Bool). PutOnce (put_of first 0 ∷ (put_if_free (object_at (left_after b) (commit_text 0)) (put_of second 0) ++ []))) (self_name (commit_text 0)) h in
     no_some (put_of second 0) (sym both.0 ∙ one_itself (put_of second 0))
 
+-- a table without properties is at the weaker level
+weaker : (columns : List (List ℕ)) → level_of (Some (meta_of columns)) ≡ WriteSerializable
+unfolding entry_of
+weaker columns = refl
+
 pub views_mean : ViewsMean
 views_mean = record {
   newest = newest_holds;
@@ -160,7 +167,7 @@ views_mean = record {
   forgets = λ h. let le = h (put_of first 1) second 1 0 small_one (one_itself (put_of first 1)) (refl, omega arith) (ap (λ (o : Option ℕ). or_first o None) (reads_one 0 (omega arith))) in omega (arith, le);
   once = once_holds;
   twice = twice_refuted;
-  level = λ columns rows words. ap (λ (t : Commit). level_of t.meta) (commit_is (table_put columns ∷ []) 0 (table_put columns).body (table_commit columns) (ap body_of (one_itself (table_put columns))) (ap (option_map table_commit) (columns_read_back columns words)));
+  level = λ columns rows words. ap (λ (t : Commit). level_of t.meta) (commit_is (table_put columns ∷ []) 0 (table_put columns).body (table_commit columns) (ap body_of (one_itself (table_put columns))) (ap (option_map table_commit) (columns_read_back columns words))) ∙ weaker columns;
   strict = λ columns. refl;
   no_table = λ rows h. cc;
 }
