@@ -4,7 +4,7 @@ use Rattle.std.specs.List.{filter}
 use Rattle.row_base.specs.Bags.{count_of, SameRows, others}
 use Rattle.table_changes.specs.Rows.{Row}
 use Rattle.table_changes.specs.Table.{File, Level, rows_in, paths_of}
-use Rattle.table_changes.specs.Conflicts.{LooksAt, is_literal, is_scan, Reads}
+use Rattle.table_changes.specs.Conflicts.{LooksAt, is_literal, is_scan, may_remove, Reads}
 
 -- an operation, by the scopes that statements name
 pub record Operation (Scope : Type 0) : Type 0 where
@@ -69,6 +69,8 @@ module _ {Scope : Type 0} (passes : Scope → Row → Bool) where
       -- an operation that reads rows gets each file that may match, and takes out such as it got
       pub complete : is_scan op.kind ≡ true → (fs : List File) (a : File) → may op.scope a ≡ true → op.gets fs a ≡ true
       pub got : is_scan op.kind ≡ true → (view : File → List Row) (fs : List File) (a : File) → op.takes view fs a ≡ true → op.gets fs a ≡ true
+      -- one that looks at no file takes none out
+      pub leaves : may_remove op.kind ≡ false → (view : File → List Row) (fs : List File) (a : File) → op.takes view fs a ≡ false
       -- only what it got decides
       pub local : (view other : File → List Row) (fs : List File) → Agree view other (got_files op fs) → (op.writes view fs ≡ op.writes other fs) × (taken_files view op fs ≡ taken_files other op fs)
       -- the new rows and the scope's old ones are the rows taken out and what comes in the scope's place

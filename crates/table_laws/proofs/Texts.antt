@@ -52,5 +52,3 @@ append_clears meta rows view fs v text t reads =
     let lines : List FileLine = map (line_of t.changes) t.lines in
     ap (λ (o : Option (List (List ℕ))). first_clash (reads_of passes may (level_in op meta) None view op fs) (record { info = Some (info_of t.blind); protocol = option_map protocol_of o; meta = option_map meta_of o; txns = []; lines = lines }))
     (no_columns v text t reads)
-    ∙ ap (λ (gone : List File). clash_or (option_map DeleteDelete (first_removed (paths_of gone) lines)) None) (none_picked fs)
-    ∙ ap (λ (o : Option (List ℕ)). clash_or (option_map DeleteDelete o) None) (none_removed lines)
