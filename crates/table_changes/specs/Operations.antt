@@ -13,8 +13,9 @@ pub record Operation (Scope : Type 0) : Type 0 where
   pub scope : Scope
   -- what comes in place of the scope's rows, where that is defined
   pub gives : List Row → Option (List Row)
-  -- whether a live file is got, and whether it is taken out
+  -- whether a live file is got
   pub gets : List File → File → Bool
+  -- whether it is taken out, by the rows of the files too
   pub takes : (File → List Row) → List File → File → Bool
   -- the new files' rows
   pub writes : (File → List Row) → List File → Option (List Row)
@@ -64,7 +65,9 @@ module _ {Scope : Type 0} (passes : Scope → Row → Bool) where
     }
 
     pub record IsSound (op : Operation Scope) : Type 0 where
+      -- the same rows give the same rows, whatever their order
       pub respects : (xs ys : List Row) → SameRows xs ys → SameIfGiven (op.gives xs) (op.gives ys)
+      -- one that isn't checked against new files names no rows
       pub quiet : (is_scan op.kind ≡ true) ⊎ ((x : Row) → passes op.scope x ≡ false)
       -- an operation that reads rows gets each file that may match, and takes out such as it got
       pub complete : is_scan op.kind ≡ true → (fs : List File) (a : File) → may op.scope a ≡ true → op.gets fs a ≡ true

@@ -51,8 +51,3 @@ inserts_rows s columns there rows = ap (λ (o : Option (List (List ℕ))). opera
 pub none_picked : (fs : List File) → filter (λ a. false) fs ≡ []
 none_picked [] = refl
 none_picked (a ∷ fs) = none_picked fs
-
-pub none_removed : (ls : List FileLine) → first_removed [] ls ≡ None
-none_removed [] = refl
-none_removed (Removes t changes ∷ ls) = none_removed ls
-none_removed (Adds a changes ∷ ls) = none_removed ls

@@ -17,7 +17,7 @@ use Rattle.table_laws.specs.Commits.{line_of, info_of, protocol_of, meta_of}
 use Rattle.table_laws.specs.Operations.{NoRow, passes, may}
 use Rattle.table_laws.proofs.CommitEffects.{new_file, effect_of, Says, level_in, judge_of}
 use Rattle.table_laws.proofs.Paths.{data_is_path}
-use Rattle.table_laws.proofs.Sound.{none_picked, none_removed}
+use Rattle.table_laws.proofs.Sound.{none_picked}
 
 later : (v : ℕ) → (suc v == 0) ≡ false
 later v = grind (arith, nat_tests)

@@ -1,5 +1,5 @@
 -- The versions of a table, by the puts that took effect in a journal: which are committed, and their metadata, live files and rows. The law (Laws) speaks
--- of a journal by these words alone, so retention may add what stands at each prefix.
+-- of a journal by these words alone.
 -- The crate above cites each_run_is_lawful alone.
 use Rattle.std.specs.Prelude.{ℕ, Bool, false, if◌then◌else◌, List, [], ◌∷◌, ◌++◌, Option, Some, None, IsSome, option_and_then}
 use Rattle.std.specs.Str.{bytes_eq}
