@@ -1,7 +1,7 @@
 -- A put that took effect: what stood before it still stands with it.
 -- It goes through the fields of Stands one by one; the put is a data file, the commit that makes a table, or another commit (MayPut).
 -- Journals cites added.
-use Rattle.std.proofs.Common.{◌≡◌, ◌⊎◌, inl, inr, ℕ, suc, ◌+◌, ◌<◌, ◌^◌, Bool, true, false, List, [], ◌∷◌, ◌++◌, refl, sym, ◌∙◌, ap, subst, arith}
+use Rattle.std.proofs.Common.{◌≡◌, ◌⊎◌, inl, inr, ℕ, suc, ◌+◌, ◌≤◌, ◌<◌, ◌^◌, Bool, true, false, List, [], ◌∷◌, ◌++◌, refl, sym, ◌∙◌, ap, subst, arith}
 use Rattle.std.specs.Prelude.{Option, Some, None, if◌then◌else◌}
 use Rattle.std.specs.Str.{bytes_eq}
 use Rattle.std.proofs.lemmas.Slice.Eq.{bytes_eq-Decides}
@@ -25,7 +25,7 @@ use Rattle.table_laws.proofs.CommitEffects.{Says}
 use Rattle.table_laws.specs.History.{Put, put_under, body_of}
 use Rattle.table_laws.specs.Runs.{listed_by, told_by, version_put}
 use Rattle.table_laws.proofs.Sessions.{GotIn, StoredIn}
-use Rattle.table_laws.proofs.Lawful.{Known, PutIn, NoPut, FoundMissing, Knows, versions_down, MayPut, IsFile, IsTable, IsCommit}
+use Rattle.table_laws.proofs.Lawful.{Known, PutIn, NoPut, ToldIn, FoundMissing, first_past, Knows, versions_down, MayPut, IsFile, IsTable, IsCommit}
 use Rattle.table_laws.proofs.Known.{knows_more}
 use Rattle.table_laws.proofs.Phases.{same_put}
 use Rattle.table_laws.proofs.Versions.{commit_put}
@@ -34,10 +34,11 @@ use Rattle.table_laws.proofs.Puts.{or_else, body_at, put_under-push, object_at-w
 use Rattle.table_laws.proofs.Shown.{InPut, Sure, own_got, stored_now, put_more, put_now, missing_now, one_more, put_of_body, given_more, kept_put, kept_body, old_or_new, one_under, one_itself, suc_same, IsMadeIn, IsPutBy}
 use Rattle.table_laws.proofs.Standing.{Committed, IsMade, Stands, put_by_more, commit_more, made_more, new_commit, new_table, not_lost, quiet}
 use Rattle.table_laws.proofs.Puts.{push_once}
+use Rattle.table_laws.proofs.Clocks.{Since, since_more, to_later, to_push, rise_push, start_told}
 
 module _ (K : Tag → List ℕ → List ℕ → Type 0) (script : Tag → Option Statement) (replies : Tag → Option Reply) (tags : (tag : Tag) (statement : Statement) → script tag ≡ Some statement → IsTag tag) where
-  module _ (past : Entries) (os : Objects) (ps : List Put) (s : Stands K script replies tags past os ps)
-      (tag : Tag) (name body : List ℕ) (answer : Answer) (clock : ℕ) (statement : Statement) (is_statement : script tag ≡ Some statement) (may : MayPut (K tag) tag statement (own tag past) name body)
+  module _ (past : Entries) (os : Objects) (ps : List Put) (before : ℕ) (s : Stands K script replies tags past os ps before)
+      (tag : Tag) (name body : List ℕ) (answer : Answer) (clock : ℕ) (le : before ≤ clock) (statement : Statement) (is_statement : script tag ≡ Some statement) (may : MayPut (K tag) tag statement (own tag past) name body)
       (free : object_at os name ≡ None) (not_taken : answer ≡ Taken → ⊥) where
     abbrev the_entry : JournalEntry
     the_entry = record { tag = tag; call = PutNew name body; answer = answer }
@@ -71,8 +72,8 @@ module _ (K : Tag → List ℕ → List ℕ → Type 0) (script : Tag → Option
     free_file start is fresh (Some q) e = let o = s.owned tag start q (tags tag statement is_statement) e in absurd (fresh _ _ _ o.1)
 
     free_by : MayPut (K tag) tag statement (own tag past) name body → put_under ps name ≡ None
-    free_by (IsFile start is fresh) = ap (λ (n : List ℕ). put_under ps n) is ∙ free_file start is fresh (put_under ps (data_text tag start 0)) refl
-    free_by (IsTable spec is_table is text none) = free_log 0 is
+    free_by (IsFile start started is fresh) = ap (λ (n : List ℕ). put_under ps n) is ∙ free_file start is fresh (put_under ps (data_text tag start 0)) refl
+    free_by (IsTable spec started is_table is text none) = free_log 0 is
     free_by (IsCommit k) = free_log (suc k.version) k.is
 
     there_now : put_under more name ≡ Some the_put
@@ -119,8 +120,8 @@ module _ (K : Tag → List ℕ → List ℕ → Type 0) (script : Tag → Option
     ]
       where
         mine : MayPut (K tag) tag statement (own tag past) name body → name ≡ data_text t start 0 → tag ≡ t
-        mine (IsFile i is fresh) h = same_file tag t i start (tags tag statement is_statement) right (sym is ∙ h)
-        mine (IsTable spec is_table is text none) h = absurd (data_is_no_commit t start 0 0 (sym h ∙ is))
+        mine (IsFile i started is fresh) h = same_file tag t i start (tags tag statement is_statement) right (sym is ∙ h)
+        mine (IsTable spec started is_table is text none) h = absurd (data_is_no_commit t start 0 0 (sym h ∙ is))
         mine (IsCommit k) h = absurd (data_is_no_commit t start 0 (suc k.version) (sym h ∙ k.is))
 
     add_made : (n : List ℕ) (q : Put) → put_under more n ≡ Some q → IsMadeIn (the_entry ∷ past) n q
@@ -190,7 +191,7 @@ module _ (K : Tag → List ℕ → List ℕ → Type 0) (script : Tag → Option
 
     add_commits : (v : ℕ) (q : Put) → suc v < 2 ^ 64 → put_under more (commit_text (suc v)) ≡ Some q → Committed K script replies tags (the_entry ∷ past) more v q
     add_commits v q small h = elim (which (commit_text (suc v)) q h) [
-      | inl old ↦ let k = s.commits v q small old in commit_more K script replies tags past ps more (the_put ∷ []) the_entry v q refl still (quiet K script replies tags past os ps s tag statement is_statement name body may v q old k) k
+      | inl old ↦ let k = s.commits v q small old in commit_more K script replies tags past ps more (the_put ∷ []) the_entry v q refl still (quiet K script replies tags past os ps before s tag statement is_statement name body may v q old k) k
       | inr new ↦ subst (λ (p : Put). Committed K script replies tags (the_entry ∷ past) more v p) new.1 (this_commit v small new.0)
     ]
 
@@ -198,7 +199,7 @@ module _ (K : Tag → List ℕ → List ℕ → Type 0) (script : Tag → Option
     not_again : (v w : ℕ) (q : Put) → suc v < 2 ^ 64 → suc w < 2 ^ 64 → name ≡ commit_text (suc v) → put_under ps (commit_text (suc w)) ≡ Some q → tag ≡ q.tag → ⊥
     not_again v w q small also is old same =
         let k = (new_commit K script replies tags tag statement (own tag past) name body v small may is).0 in
-        not_lost K script replies tags past os ps s tag statement is_statement name body w q old (s.commits w q also old) same k
+        not_lost K script replies tags past os ps before s tag statement is_statement name body w q old (s.commits w q also old) same k
 
     add_single : (v w : ℕ) (p q : Put) → suc v < 2 ^ 64 → suc w < 2 ^ 64 → put_under more (commit_text (suc v)) ≡ Some p → put_under more (commit_text (suc w)) ≡ Some q → p.tag ≡ q.tag → v ≡ w
     add_single v w p q small also h k same = elim (which (commit_text (suc v)) p h) [
@@ -212,5 +213,37 @@ module _ (K : Tag → List ℕ → List ℕ → Type 0) (script : Tag → Option
       ]
     ]
 
-    pub added : Stands K script replies tags (the_entry ∷ past) now more
-    added = record { agree = add_agree; logs = add_logs; owned = add_owned; made = add_made; missing = add_missing; got = add_got; stored = add_stored; table = add_table; commits = add_commits; names = push_once ps the_put s.names (free_by may); single = add_single }
+    -- it comes after its statement's start
+    add_since : Since (the_entry ∷ past) the_put
+    add_since = by may
+      where
+        from : (start : ℕ) → first_past told_by (own tag past) ≡ Some start → Since (the_entry ∷ past) the_put
+        from start is = record { start = start; started = given_more told_by tag the_entry past start is; before = let old = s.told start (start_told tag past start is) in omega (arith, old, le) }
+
+        by : MayPut (K tag) tag statement (own tag past) name body → Since (the_entry ∷ past) the_put
+        by (IsFile start started is fresh) = from start started
+        by (IsTable spec started is_table is text none) = from started.0 started.1
+        by (IsCommit k) = from k.start k.started
+
+    add_told : (time : ℕ) → ToldIn (the_entry ∷ past) time → time ≤ clock
+    add_told time (inl now) = let bad = now.0 in cc
+    add_told time (inr old) = let told = s.told time old in omega (arith, told, le)
+
+    pub added : Stands K script replies tags (the_entry ∷ past) now more clock
+    added = record {
+      agree = add_agree;
+      logs = add_logs;
+      owned = add_owned;
+      made = add_made;
+      missing = add_missing;
+      got = add_got;
+      stored = add_stored;
+      table = add_table;
+      commits = add_commits;
+      names = push_once ps the_put s.names (free_by may);
+      single = add_single;
+      told = add_told;
+      times = to_push clock ps the_put (to_later before clock le ps s.times) (omega arith);
+      rising = rise_push before ps the_put s.times le s.rising;
+      since = λ n p h. elim (which n p h) [ inl old ↦ since_more past the_entry p (s.since n p old) | inr new ↦ subst (Since (the_entry ∷ past)) new.1 add_since ];
+    }

@@ -5,7 +5,7 @@ use Rattle.edge_api.specs.declared.call.Tag.{Tag}
 use Rattle.edge_api.specs.declared.call.Call.{Call}
 use Rattle.edge_api.specs.declared.call.Call.TheVariants.{Get, PutNew, Put as Replace, List as ListNames, Delete, Now, Wait}
 use Rattle.edge_api.specs.declared.call.Answer.{Answer}
-use Rattle.edge_api.specs.declared.call.Answer.TheVariants.{Fault, Missing, Taken}
+use Rattle.edge_api.specs.declared.call.Answer.TheVariants.{Fault, Missing, Taken, Time}
 use Rattle.row_base.specs.declared.row.ScannedFile.{ScannedFile}
 use Rattle.row_base.specs.Sorting.{Sorts}
 use Rattle.op_types.specs.declared.statement.Statement.{Statement}
@@ -64,10 +64,19 @@ abbrev pub ClaimsNothing : Entries → Refusal → Type 0
 ClaimsNothing past r =
     (v : ℕ) (body : List ℕ) (answer : Answer) → PutIn past (commit_text v) body answer → IsLost past (commit_text v) body answer ⊎ (FoundMissing past (commit_text v) ⊎ (IsUnknown r × (answer ≡ Fault)))
 
+-- the clock was read, and told this time
+abbrev pub ToldIn : Entries → ℕ → Type 0
+ToldIn [] time = ⊥
+ToldIn (e ∷ past) time = ((e.call ≡ Now) × (e.answer ≡ Time time)) ⊎ ToldIn past time
+
 -- what the entries give first
 abbrev pub first_past : (Call → Answer → Option ℕ) → Entries → Option ℕ
 first_past by [] = None
 first_past by (e ∷ past) = or_first (first_past by past) (by e.call e.answer)
+
+-- a statement has read the clock: its first reading is its start
+abbrev pub HasStart : Entries → Type 0
+HasStart past = (start : ℕ) × (first_past told_by past ≡ Some start)
 
 -- by what is known under a name: of entries, what was got; of a history, what was put
 module _ (G : List ℕ → List ℕ → Type 0) where
@@ -172,17 +181,17 @@ pub record IsCommitOf (K : List ℕ → List ℕ → Type 0) (tag : Tag) (statem
   pub puts : versions_put past ≡ versions_down read tries
   pub won : AllWon past read version
 
--- a statement's data file, the commit that makes a table, or another commit
+-- a statement's data file, the commit that makes a table, or another commit. Each is put after the statement's start
 pub data MayPut (K : List ℕ → List ℕ → Type 0) (tag : Tag) (statement : Statement) (past : Entries) (name body : List ℕ) : Type 0 where
-  IsFile : (start : ℕ) → name ≡ data_text tag start 0 → NoPut past → MayPut K tag statement past name body
-  IsTable : (spec : TableSpec) → statement ≡ Table spec → name ≡ commit_text 0 → body ≡ text_of_columns (names_of spec.columns) → NoPut past → MayPut K tag statement past name body
+  IsFile : (start : ℕ) → first_past told_by past ≡ Some start → name ≡ data_text tag start 0 → NoPut past → MayPut K tag statement past name body
+  IsTable : (spec : TableSpec) → HasStart past → statement ≡ Table spec → name ≡ commit_text 0 → body ≡ text_of_columns (names_of spec.columns) → NoPut past → MayPut K tag statement past name body
   IsCommit : IsCommitOf K tag statement past name body → MayPut K tag statement past name body
 
 abbrev pub LawfulBy : (List ℕ → List ℕ → Type 0) → Tag → Statement → Entries → Call → Type 0
 LawfulBy K tag statement past (PutNew name body) = MayPut K tag statement past name body
 LawfulBy K tag statement past (Get name) = Unit {0}
 LawfulBy K tag statement past (Replace name body) = ⊥
-LawfulBy K tag statement past (ListNames prefix) = Unit {0}
+LawfulBy K tag statement past (ListNames prefix) = HasStart past
 LawfulBy K tag statement past (Delete name) = ⊥
 LawfulBy K tag statement past Now = Unit {0}
 LawfulBy K tag statement past (Wait time) = Unit {0}

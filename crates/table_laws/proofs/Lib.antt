@@ -13,6 +13,7 @@ pub mod Kept
 pub mod Names
 pub mod Puts
 pub mod Shown
+pub mod Clocks
 pub mod Standing
 pub mod Landing
 pub mod Journals

@@ -113,7 +113,7 @@ object_listed (x ∷ os) v small o h = by (bytes_eq x.0 (commit_text v)) refl h 
     by false e h rest = either (starts_with nat_eq x.0 log_prefix) (rest h)
 
 module _ (K : Tag → List ℕ → List ℕ → Type 0) (script : Tag → Option Statement) (replies : Tag → Option Reply) (tags : (tag : Tag) (statement : Statement) → script tag ≡ Some statement → IsTag tag)
-    (past : Entries) (os : Objects) (ps : List Put) (s : Stands K script replies tags past os ps) where
+    (past : Entries) (os : Objects) (ps : List Put) (clock : ℕ) (s : Stands K script replies tags past os ps clock) where
   -- a version whose commit isn't listed has none
   none_put : (v : ℕ) → v < 2 ^ 64 → (HasVersion v (listing os log_prefix) → ⊥) → put_under ps (commit_text v) ≡ None
   none_put v small absent = by (object_at os (commit_text v)) refl

@@ -1,4 +1,4 @@
--- What stands at each moment of a run, and what becomes of the put of a commit there.
+-- What becomes of the put of a commit at its moment.
 use Rattle.std.proofs.Common.{◌≡◌, ◌⊎◌, inl, inr, ℕ, Bool, true, false, List, [], ◌∷◌, ◌++◌, refl, sym, ◌∙◌, ap, subst}
 use Rattle.std.proofs.lemmas.List.{append-nil, append_assoc}
 use Rattle.std.specs.Prelude.{Option, Some, None}
@@ -24,41 +24,13 @@ use Rattle.table_laws.proofs.Lawful.{MayPut, LawfulBy}
 use Rattle.table_laws.proofs.Puts.{body_at}
 use Rattle.table_laws.proofs.Tries.{put_under-behind}
 use Rattle.table_laws.proofs.Shown.{put_of_body}
-use Rattle.table_laws.proofs.Standing.{Stands, Keeps, nothing_stands, lawful_next, keeps_rest, not_own}
-use Rattle.table_laws.proofs.Journals.{call_step}
+use Rattle.table_laws.proofs.Standing.{Keeps, nothing_stands, lawful_next, not_own}
+use Rattle.table_laws.proofs.Journals.{StandsAt, stands_at}
 use Rattle.table_laws.proofs.Ends.{keeps_answered}
 
 module _ (K : Tag → List ℕ → List ℕ → Type 0) (script : Tag → Option Statement) (replies : Tag → Option Reply) (tags : (tag : Tag) (statement : Statement) → script tag ≡ Some statement → IsTag tag) where
-  -- what stands after some moments, with the rest still to come
-  pub record StandsAt (first : Objects) (puts : List Put) (before rest : List Moment) : Type 0 where
-    pub past : Entries
-    pub os : Objects
-    pub clock : ℕ
-    pub stands : Stands K script replies tags past os (puts ++ history first before)
-    pub legal : IsLegal os clock rest
-    pub keeps : Keeps K script replies tags past (entries_of rest)
-    pub whole : history first (before ++ rest) ≡ history first before ++ history os rest
-
-  pub stands_at : (before rest : List Moment) (past : Entries) (os : Objects) (ps : List Put) (clock : ℕ) → Stands K script replies tags past os ps → IsLegal os clock (before ++ rest)
-      → Keeps K script replies tags past (entries_of (before ++ rest)) → StandsAt os ps before rest
-  stands_at [] rest past os ps clock s legal keeps =
-      record { past = past; os = os; clock = clock; stands = subst (Stands K script replies tags past os) (sym (append-nil ps)) s; legal = legal; keeps = keeps; whole = refl }
-  stands_at (m ∷ before) rest past os ps clock s legal keeps =
-      let next = lawful_next K script replies tags past m.entry (entries_of (before ++ rest)) keeps in
-      let here = call_step K script replies tags past os ps s m.entry.tag m.entry.call m.entry.answer m.clock m.took_effect next.0 next.1 next.2 legal.2 in
-      let r = stands_at before rest (m.entry ∷ past) (after_moment os m) (ps ++ puts_at os m) m.clock here legal.3 (keeps_rest K script replies tags past m.entry (entries_of (before ++ rest)) keeps) in
-      record {
-        past = r.past;
-        os = r.os;
-        clock = r.clock;
-        stands = subst (Stands K script replies tags r.past r.os) (append_assoc ps (puts_at os m) (history (after_moment os m) before)) r.stands;
-        legal = r.legal;
-        keeps = r.keeps;
-        whole = ap (λ (l : List Put). puts_at os m ++ l) r.whole ∙ sym (append_assoc (puts_at os m) (history (after_moment os m) before) (history r.os rest));
-      }
-
   -- the put of a commit at a moment
-  module _ (before rest : List Moment) (m : Moment) (v : ℕ) (body : List ℕ) (is : m.entry.call ≡ PutNew (commit_text v) body) (r : StandsAt [] [] before (m ∷ rest)) where
+  module _ (before rest : List Moment) (m : Moment) (v : ℕ) (body : List ℕ) (is : m.entry.call ≡ PutNew (commit_text v) body) (r : StandsAt K script replies tags [] [] [] 0 before (m ∷ rest)) where
     abbrev the_put : Put
     the_put = record { tag = m.entry.tag; name = commit_text v; body = body; at = m.clock }
 
@@ -115,7 +87,7 @@ module _ (K : Tag → List ℕ → List ℕ → Type 0) (script : Tag → Option
             let next = lawful_next K script replies tags r.past m.entry (entries_of rest) r.keeps in
             let may : MayPut (K m.entry.tag) m.entry.tag next.0 (own m.entry.tag r.past) (commit_text v) body = subst (LawfulBy (K m.entry.tag) m.entry.tag next.0 (own m.entry.tag r.past)) is next.2 in
             let winner = put_of_body (put_under (history [] before) (commit_text v)) o.body ((r.stands).agree (commit_text v) o.body (ap body_at at)) in
-            Loses winner.0 winner.1 (λ same. not_own K script replies tags r.past r.os (history [] before) r.stands m.entry.tag next.0 next.1 (commit_text v) body may v refl winner.0 winner.1 same)
+            Loses winner.0 winner.1 (λ same. not_own K script replies tags r.past r.os (history [] before) r.clock r.stands m.entry.tag next.0 next.1 (commit_text v) body may v refl winner.0 winner.1 same)
             (taken_or_fault m.entry.answer answers)
 
 pub puts_at_moments : (limit : ℕ) (script : Tag → Option Statement) (outcomes : Tag → Option Finish) (moments : List Moment) → IsLegal [] 0 moments → IsRun limit script outcomes (entries_of moments) → CommitPutsAreDecided moments

@@ -5,9 +5,9 @@ use Rattle.std.proofs.Common.{◌≡◌, inl, inr, ℕ, suc, ◌+◌, ◌≤◌,
 use Rattle.std.proofs.lemmas.List.{append-nil}
 use Rattle.std.specs.Prelude.{Option, Some, None, if◌then◌else◌}
 use Rattle.edge_api.specs.declared.call.Tag.{Tag}
-use Rattle.edge_api.specs.declared.call.Call.TheVariants.{Get, PutNew}
+use Rattle.edge_api.specs.declared.call.Call.TheVariants.{Get, PutNew, Now}
 use Rattle.edge_api.specs.declared.call.Answer.{Answer}
-use Rattle.edge_api.specs.declared.call.Answer.TheVariants.{Body, Missing, Stored}
+use Rattle.edge_api.specs.declared.call.Answer.TheVariants.{Body, Missing, Stored, Time}
 use Rattle.edge_api.specs.declared.call.JournalEntry.{JournalEntry}
 use Rattle.edge_api.specs.Journal.{Objects, same_tag, object_at}
 use Rattle.op_types.specs.declared.statement.Statement.{Statement}
@@ -36,9 +36,10 @@ use Rattle.table_laws.specs.Views.{PutOnce}
 use Rattle.table_laws.specs.History.{Put, put_under, body_of}
 use Rattle.table_laws.specs.Runs.{listed_by, told_by, version_put, versions_put}
 use Rattle.table_laws.proofs.Sessions.{GotIn, StoredIn}
-use Rattle.table_laws.proofs.Lawful.{PutIn, FoundMissing, first_past, Knows, versions_down, IsCommitOf, MayPut, IsFile, IsTable, IsCommit, LawfulBy, AllLawful}
+use Rattle.table_laws.proofs.Lawful.{PutIn, ToldIn, FoundMissing, first_past, Knows, versions_down, IsCommitOf, MayPut, IsFile, IsTable, IsCommit, LawfulBy, AllLawful}
 use Rattle.table_laws.proofs.Known.{knows_more}
 use Rattle.table_laws.proofs.Versions.{data_put}
+use Rattle.table_laws.proofs.Clocks.{AllTo, NeverFall, Since, since_more, to_later}
 use Rattle.table_laws.proofs.Puts.{body_at}
 use Rattle.table_laws.proofs.Shown.{InPut, Sure, sure_more, own_got, stored_now, put_more, missing_now, none_more, more_after, given_more, suc_same, some_same, IsMadeIn, IsPutBy}
 
@@ -93,7 +94,8 @@ module _ (K : Tag → List ℕ → List ℕ → Type 0) (script : Tag → Option
   abbrev pub IsMade : Put → Type 0
   IsMade p = (spec : TableSpec) × (script p.tag ≡ Some (Table spec)) × (p.body ≡ text_of_columns (names_of spec.columns))
 
-  pub record Stands (past : Entries) (os : Objects) (ps : List Put) : Type 0 where
+  -- by the entries so far, the newest first, the objects and the puts that they leave, and the clock of the last moment
+  pub record Stands (past : Entries) (os : Objects) (ps : List Put) (clock : ℕ) : Type 0 where
     pub agree : (n b : List ℕ) → body_at (object_at os n) ≡ Some b → InPut ps n b
     pub logs : (v : ℕ) → object_at os (commit_text v) ≡ None → put_under ps (commit_text v) ≡ None
     pub owned : (t : Tag) (start : ℕ) (q : Put) → IsTag t → put_under ps (data_text t start 0) ≡ Some q → (a : Answer) × PutIn (own t past) (data_text t start 0) q.body a
@@ -105,8 +107,12 @@ module _ (K : Tag → List ℕ → List ℕ → Type 0) (script : Tag → Option
     pub commits : (v : ℕ) (p : Put) → suc v < 2 ^ 64 → put_under ps (commit_text (suc v)) ≡ Some p → Committed past ps v p
     pub names : PutOnce ps
     pub single : (v w : ℕ) (p q : Put) → suc v < 2 ^ 64 → suc w < 2 ^ 64 → put_under ps (commit_text (suc v)) ≡ Some p → put_under ps (commit_text (suc w)) ≡ Some q → p.tag ≡ q.tag → v ≡ w
+    pub told : (time : ℕ) → ToldIn past time → time ≤ clock
+    pub times : AllTo clock ps
+    pub rising : NeverFall ps
+    pub since : (n : List ℕ) (p : Put) → put_under ps n ≡ Some p → Since past p
 
-  pub nothing_stands : Stands [] [] []
+  pub nothing_stands : Stands [] [] [] 0
   nothing_stands = record {
     agree = λ n b h. cc;
     logs = λ v h. refl;
@@ -119,6 +125,10 @@ module _ (K : Tag → List ℕ → List ℕ → Type 0) (script : Tag → Option
     commits = λ v p small h. cc;
     names = tt;
     single = λ v w p q small also h k e. cc;
+    told = λ time h. absurd h;
+    times = tt;
+    rising = tt;
+    since = λ n p h. cc;
   }
 
   pub put_by_more : (ps qs : List Put) → ((n : List ℕ) (p : Put) → put_under ps n ≡ Some p → put_under qs n ≡ Some p) → (t : Tag) (n b : List ℕ) → IsPutBy ps t n b → IsPutBy qs t n b
@@ -150,24 +160,32 @@ module _ (K : Tag → List ℕ → List ℕ → Type 0) (script : Tag → Option
   pub made_more : (past : Entries) (e : JournalEntry) (n : List ℕ) (p : Put) → IsMadeIn past n p → IsMadeIn (e ∷ past) n p
   made_more past e n p m = record { answer = m.answer; made = put_more p.tag e past n p.body m.answer m.made; landed = m.landed }
 
-  -- an entry that puts nothing
-  pub unchanged : (past : Entries) (os : Objects) (ps : List Put) (e : JournalEntry) → Stands past os ps
-      → ((n b : List ℕ) → e.call ≡ Get n → e.answer ≡ Body b → InPut ps n b)
-      → ((v : ℕ) → e.call ≡ Get (commit_text v) → e.answer ≡ Missing → put_under ps (commit_text v) ≡ None)
-      → ((n b : List ℕ) → e.call ≡ PutNew n b → e.answer ≡ Stored → ⊥)
-      → ((v : ℕ) (p : Put) → put_under ps (commit_text (suc v)) ≡ Some p → Committed past ps v p → e.tag ≡ p.tag → version_put e.call ≡ None) → Stands (e ∷ past) os ps
-  unchanged past os ps e s gets misses stores quiet = record {
+  -- what an entry that puts nothing shows, at the clock of its moment
+  pub record Quiet (past : Entries) (ps : List Put) (clock : ℕ) (e : JournalEntry) (at : ℕ) : Type 0 where
+    pub le : clock ≤ at
+    pub gets : (n b : List ℕ) → e.call ≡ Get n → e.answer ≡ Body b → InPut ps n b
+    pub misses : (v : ℕ) → e.call ≡ Get (commit_text v) → e.answer ≡ Missing → put_under ps (commit_text v) ≡ None
+    pub stores : (n b : List ℕ) → e.call ≡ PutNew n b → e.answer ≡ Stored → ⊥
+    pub silent : (v : ℕ) (p : Put) → put_under ps (commit_text (suc v)) ≡ Some p → Committed past ps v p → e.tag ≡ p.tag → version_put e.call ≡ None
+    pub tells : (time : ℕ) → e.call ≡ Now → e.answer ≡ Time time → time ≡ at
+
+  pub unchanged : (past : Entries) (os : Objects) (ps : List Put) (clock : ℕ) (e : JournalEntry) (at : ℕ) → Stands past os ps clock → Quiet past ps clock e at → Stands (e ∷ past) os ps at
+  unchanged past os ps clock e at s q = record {
     agree = s.agree;
     logs = s.logs;
-    owned = λ t start q is h. let o = s.owned t start q is h in (o.0, put_more t e past _ _ _ o.1);
+    owned = λ t start p is h. let o = s.owned t start p is h in (o.0, put_more t e past _ _ _ o.1);
     made = λ n p h. made_more past e n p (s.made n p h);
-    missing = λ t v p h k same. elim (missing_now t e past (commit_text v) h) [ inl now ↦ not_there p (sym (misses v now.1 now.2) ∙ k) | inr before ↦ s.missing t v p before.1 k same ];
-    got = λ n b h. elim h [ inl now ↦ gets n b now.0 now.1 | inr before ↦ s.got n b before ];
-    stored = λ t n b h. elim (stored_now t e past n b h) [ inl now ↦ absurd (stores n b now.1 now.2) | inr before ↦ s.stored t n b before ];
+    missing = λ t v p h k same. elim (missing_now t e past (commit_text v) h) [ inl now ↦ not_there p (sym (q.misses v now.1 now.2) ∙ k) | inr before ↦ s.missing t v p before.1 k same ];
+    got = λ n b h. elim h [ inl now ↦ q.gets n b now.0 now.1 | inr before ↦ s.got n b before ];
+    stored = λ t n b h. elim (stored_now t e past n b h) [ inl now ↦ absurd (q.stores n b now.1 now.2) | inr before ↦ s.stored t n b before ];
     table = s.table;
-    commits = λ v p small h. let k = s.commits v p small h in commit_more past ps ps [] e v p (sym (append-nil ps)) (λ n b k. k) (quiet v p h k) k;
+    commits = λ v p small h. let k = s.commits v p small h in commit_more past ps ps [] e v p (sym (append-nil ps)) (λ n b k. k) (q.silent v p h k) k;
     names = s.names;
     single = s.single;
+    told = λ time h. elim h [ inl now ↦ (let same = q.tells time now.0 now.1 in omega (arith, same)) | inr before ↦ (let le = q.le in let old = s.told time before in omega (arith, le, old)) ];
+    times = to_later clock at q.le ps s.times;
+    rising = s.rising;
+    since = λ n p h. since_more past e p (s.since n p h);
   }
     where
       not_there : (p : Put) → None ≡ Some p → ⊥
@@ -176,14 +194,14 @@ module _ (K : Tag → List ℕ → List ℕ → Type 0) (script : Tag → Option
   -- the one put that is new, if it is a commit
   pub new_commit : (tag : Tag) (statement : Statement) (past : Entries) (name body : List ℕ) (v : ℕ) → suc v < 2 ^ 64 → MayPut (K tag) tag statement past name body → name ≡ commit_text (suc v)
       → (k : IsCommitOf (K tag) tag statement past name body) × (k.version ≡ v)
-  new_commit tag statement past name body v small (IsFile start is fresh) h = absurd (data_is_no_commit tag start 0 (suc v) (sym is ∙ h))
-  new_commit tag statement past name body v small (IsTable spec is_table is text none) h = let e : ◌≡◌ {A = ℕ} 0 (suc v) = commits_differ 0 (suc v) (omega arith) small (sym is ∙ h) in absurd (omega arith)
+  new_commit tag statement past name body v small (IsFile start started is fresh) h = absurd (data_is_no_commit tag start 0 (suc v) (sym is ∙ h))
+  new_commit tag statement past name body v small (IsTable spec started is_table is text none) h = let e : ◌≡◌ {A = ℕ} 0 (suc v) = commits_differ 0 (suc v) (omega arith) small (sym is ∙ h) in absurd (omega arith)
   new_commit tag statement past name body v small (IsCommit k) h = (k, suc_same k.version v (commits_differ (suc k.version) (suc v) k.small small (sym k.is ∙ h)))
 
   pub new_table : (tag : Tag) (statement : Statement) (past : Entries) (name body : List ℕ) → script tag ≡ Some statement → MayPut (K tag) tag statement past name body → name ≡ commit_text 0
       → (spec : TableSpec) × (script tag ≡ Some (Table spec)) × (body ≡ text_of_columns (names_of spec.columns))
-  new_table tag statement past name body by (IsFile start is fresh) h = absurd (data_is_no_commit tag start 0 0 (sym is ∙ h))
-  new_table tag statement past name body by (IsTable spec is_table is text none) h = (spec, by ∙ ap (λ (s : Statement). Some s) is_table, text)
+  new_table tag statement past name body by (IsFile start started is fresh) h = absurd (data_is_no_commit tag start 0 0 (sym is ∙ h))
+  new_table tag statement past name body by (IsTable spec started is_table is text none) h = (spec, by ∙ ap (λ (s : Statement). Some s) is_table, text)
   new_table tag statement past name body by (IsCommit k) h = let e : ◌≡◌ {A = ℕ} (suc k.version) 0 = commits_differ (suc k.version) 0 k.small (omega arith) (sym k.is ∙ h) in absurd (omega arith)
 
   -- a statement that makes a table commits no later version
@@ -193,7 +211,7 @@ module _ (K : Tag → List ℕ → List ℕ → Type 0) (script : Tag → Option
       makes_none k.s columns.0 columns.1 spec k.op (ap (operation_of (schema_in k.s)) (some_same (Table spec) k.statement (sym is ∙ k.is_statement)) ∙ k.is_op)
 
   -- a statement whose commit took effect puts no further one
-  module _ (past : Entries) (os : Objects) (ps : List Put) (s : Stands past os ps) (tag : Tag) (statement : Statement) (is_statement : script tag ≡ Some statement) (name body : List ℕ) where
+  module _ (past : Entries) (os : Objects) (ps : List Put) (clock : ℕ) (s : Stands past os ps clock) (tag : Tag) (statement : Statement) (is_statement : script tag ≡ Some statement) (name body : List ℕ) where
     pub not_lost : (v : ℕ) (q : Put) → put_under ps (commit_text (suc v)) ≡ Some q → Committed past ps v q → tag ≡ q.tag → IsCommitOf (K tag) tag statement (own tag past) name body → ⊥
     not_lost v q old there same k =
         let m = s.made (commit_text (suc v)) q old in
@@ -205,8 +223,8 @@ module _ (K : Tag → List ℕ → List ℕ → Type 0) (script : Tag → Option
 
     -- what stands under a commit's name that it may put is not its own
     pub not_own : MayPut (K tag) tag statement (own tag past) name body → (version : ℕ) → name ≡ commit_text version → (q : Put) → put_under ps name ≡ Some q → q.tag ≡ tag → ⊥
-    not_own (IsFile start is fresh) version at q there same = data_is_no_commit tag start 0 version (sym is ∙ at)
-    not_own (IsTable spec is_table is text none) version at q there same =
+    not_own (IsFile start started is fresh) version at q there same = data_is_no_commit tag start 0 version (sym is ∙ at)
+    not_own (IsTable spec started is_table is text none) version at q there same =
         let m = s.made name q there in
         none name q.body m.answer (subst (λ (t : Tag). PutIn (own t past) name q.body m.answer) same m.made)
     not_own (IsCommit k) version at q there same =
@@ -214,7 +232,7 @@ module _ (K : Tag → List ℕ → List ℕ → Type 0) (script : Tag → Option
         not_lost k.version q here (s.commits k.version q k.small here) (sym same) k
 
     pub quiet : MayPut (K tag) tag statement (own tag past) name body → (v : ℕ) (q : Put) → put_under ps (commit_text (suc v)) ≡ Some q → Committed past ps v q → tag ≡ q.tag → version_put (PutNew name body) ≡ None
-    quiet (IsFile start is fresh) v q old there same = ap (λ (n : List ℕ). version_put (PutNew n body)) is ∙ data_put tag start body
-    quiet (IsTable spec is_table is text none) v q old there same =
+    quiet (IsFile start started is fresh) v q old there same = ap (λ (n : List ℕ). version_put (PutNew n body)) is ∙ data_put tag start body
+    quiet (IsTable spec started is_table is text none) v q old there same =
         absurd (no_later past ps v q there spec (sym (ap script same) ∙ is_statement ∙ ap (λ (s : Statement). Some s) is_table))
     quiet (IsCommit k) v q old there same = absurd (not_lost v q old there same k)

@@ -186,7 +186,7 @@ module _ (K : List ℕ → List ℕ → Type 0) (tag : Tag) (limit : ℕ) (limit
   appends : (rows : List Row) → rows_of_text (text_of_rows rows) ≡ Some rows → (out : Option Finish) (kept : Option Kept) (start read : ℕ) (s : Snapshot) (past es : Entries) → read < version_limit → LoadedTo (Known K past) (suc read) s → Fresh start read past
       → Appends tag limit out rows kept start read es → AllLawful K tag (Insert rows) (reply_in out) past es
   appends rows faithful out kept start read s past es small loaded fresh h =
-      at_put_new K tag (Insert rows) out kept (data_text tag start 0) (text_of_rows rows) _ _ _ past es (none_lost past fresh.none) (IsFile start refl fresh.none) h
+      at_put_new K tag (Insert rows) out kept (data_text tag start 0) (text_of_rows rows) _ _ _ past es (none_lost past fresh.none) (IsFile start fresh.started refl fresh.none) h
       (λ e rest put is on. ended_lost K tag (Insert rows) out kept _ (e ∷ past) rest (still e put) on)
       (λ e rest put is on.
       attempts K tag (insert_of NoRow rows) start read s (λ a. []) (Insert rows) (inserts_rows s columns.0 columns.1 rows) (record { text = text_of_add (data_text tag start 0); makes_table = false })
@@ -330,13 +330,13 @@ module _ (K : List ℕ → List ℕ → Type 0) (tag : Tag) (limit : ℕ) (limit
       by false e on = ended_lost K tag (whole statement) out kept (refusal.Unsupported Versions) past es (none_lost past none) on
 
   -- the making of a table
-  makes : (spec : TableSpec) (start : ℕ) (out : Option Finish) (kept : Option Kept) (o : Option ℕ) (past es : Entries) → NoPut past → Makes tag limit out spec.columns start kept o es → AllLawful K tag (Table spec) (reply_in out) past es
-  makes spec start out kept (Some v) past es none h = ended_lost K tag (Table spec) out kept refusal.TableThere past es (none_lost past none) h
-  makes spec start out kept None past es none h =
-      at_attempt K tag (Table spec) out kept (record { text = text_of_columns (names_of spec.columns); makes_table = true }) (record { start = start; retention = retention; first = 0 }) (λ l. Created) (λ lost past. (lost ≡ 0) × NoPut past)
+  makes : (spec : TableSpec) (start : ℕ) (out : Option Finish) (kept : Option Kept) (o : Option ℕ) (past es : Entries) → NoPut past → first_past told_by past ≡ Some start → Makes tag limit out spec.columns start kept o es → AllLawful K tag (Table spec) (reply_in out) past es
+  makes spec start out kept (Some v) past es none started h = ended_lost K tag (Table spec) out kept refusal.TableThere past es (none_lost past none) h
+  makes spec start out kept None past es none started h =
+      at_attempt K tag (Table spec) out kept (record { text = text_of_columns (names_of spec.columns); makes_table = true }) (record { start = start; retention = retention; first = 0 }) (λ l. Created) (λ lost past. (lost ≡ 0) × NoPut past × (first_past told_by past ≡ Some start))
       (λ lost past p. none_lost past p.1)
-      (λ lost past e is p. (p.0, none_put e past Now is now_no_put p.1))
-      (λ lost past small p. IsTable spec refl (ap commit_text (first lost p.0)) refl p.1)
+      (λ lost past e is p. (p.0, none_put e past Now is now_no_put p.1, given_more told_by past e start p.2))
+      (λ lost past small p. IsTable spec (start, p.2) refl (ap commit_text (first lost p.0)) refl p.1)
       (λ lost past e f body winner put got answer why clear small p. cc)
       (λ lost past e l put answer version attempts small p.
       let here = put_first e lost p.0 put in
@@ -345,7 +345,7 @@ module _ (K : List ℕ → List ℕ → Type 0) (tag : Tag) (limit : ℕ) (limit
       let here = put_first e lost p.0 put in
       let there : f.call ≡ Get (commit_text 0) = got ∙ ap (λ (n : ℕ). Get (commit_text n)) (first lost p.0) in
       record { spec = spec; is_table = refl; puts = other_put f (e ∷ past) (Get (commit_text 0)) there refl ∙ put_once e past p.1 here; there = inr (inl (there, answer), inr (inl (here, fault))) })
-      limit 0 [] past es (omega arith) (refl, none) h
+      limit 0 [] past es (omega arith) (refl, none, started) h
     where
       first : (lost : ℕ) → lost ≡ 0 → 0 + lost ≡ 0
       first lost is = omega arith
@@ -359,7 +359,7 @@ module _ (K : List ℕ → List ℕ → Type 0) (tag : Tag) (limit : ℕ) (limit
   after_list : (kept : Option Kept) → KnownKept K kept → (statement : Statement) → ((rows : List Row) → statement ≡ Insert rows → rows_of_text (text_of_rows rows) ≡ Some rows)
       → (out : Option Finish) (start : ℕ) (l : List Listed) (past es : Entries) → NoPut past → first_past told_by past ≡ Some start → ((v : ℕ) → newest l ≡ Some v → first_past listed_by past ≡ Some v)
       → AfterList tag limit out statement kept start l es → AllLawful K tag statement (reply_in out) past es
-  after_list kept held (Table spec) faithful out start l past es none started seen h = makes spec start out kept (newest l) past es none h
+  after_list kept held (Table spec) faithful out start l past es none started seen h = makes spec start out kept (newest l) past es none started h
   after_list kept held (Insert rows) faithful out start l past es none started seen h = loads kept held (over.Insert rows) faithful out start l (newest l) past es none started seen h
   after_list kept held Select faithful out start l past es none started seen h = loads kept held over.Select faithful out start l (newest l) past es none started seen h
 
@@ -369,10 +369,11 @@ module _ (K : List ℕ → List ℕ → Type 0) (tag : Tag) (limit : ℕ) (limit
   answered_lawful kept held statement faithful es out h =
       at_now K tag statement out kept _ _ [] es (none_lost [] (λ n b a k. absurd k)) h (λ start e rest now time on.
       let quiet = none_put e [] Now now now_no_put (λ n b a k. absurd k) in
-      at_list K tag statement out kept _ log_prefix _ (e ∷ []) rest (none_lost (e ∷ []) quiet) on (λ l f rest' call names on'.
+      let started : first_past told_by (e ∷ []) ≡ Some start = ap (λ (x : Call). told_by x e.answer) now ∙ ap (λ (a : Answer). told_by Now a) time in
+      at_list K tag statement out kept _ log_prefix _ (e ∷ []) rest (start, started) (none_lost (e ∷ []) quiet) on (λ l f rest' call names on'.
       after_list kept held statement faithful out start l (f ∷ e ∷ []) rest'
       (none_put f (e ∷ []) (ListNames log_prefix) call (list_no_put log_prefix) quiet)
-      (given_more told_by (e ∷ []) f start (ap (λ (x : Call). told_by x e.answer) now ∙ ap (λ (a : Answer). told_by Now a) time))
+      (given_more told_by (e ∷ []) f start started)
       (λ v is.
       ap (λ (x : Call). or_first (listed_by x e.answer) (listed_by f.call f.answer)) now
       ∙ ap (λ (x : Call). listed_by x f.answer) call ∙ ap (λ (a : Answer). listed_by (ListNames log_prefix) a) names

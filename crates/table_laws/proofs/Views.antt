@@ -29,7 +29,7 @@ use Rattle.table_laws.proofs.Tries.{put_under-front}
 use Rattle.table_laws.proofs.Standing.{Keeps, nothing_stands}
 use Rattle.table_laws.proofs.Readings.{some_put}
 use Rattle.table_laws.proofs.Listings.{listing_is_newest, newest_there, listed_object}
-use Rattle.table_laws.proofs.Moments.{StandsAt, stands_at}
+use Rattle.table_laws.proofs.Journals.{StandsAt, stands_at}
 use Rattle.table_laws.proofs.Ends.{keeps_answered}
 
 same_number : (a b : ℕ) → a ≡ b → (a == b) ≡ true
@@ -223,7 +223,7 @@ module _ (limit : ℕ) (script : Tag → Option Statement) (outcomes : Tag → O
   K = SessionKnows (entries_of moments)
 
   abbrev At : List Moment → List Moment → Type 0
-  At before rest = StandsAt K script (replies_of outcomes) run.tags [] [] before rest
+  At before rest = StandsAt K script (replies_of outcomes) run.tags [] [] [] 0 before rest
 
   at_moment : (before after : List Moment) (m : Moment) → moments ≡ before ++ m ∷ after → At before (m ∷ after)
   at_moment before after m parts =
@@ -241,7 +241,7 @@ module _ (limit : ℕ) (script : Tag → Option Statement) (outcomes : Tag → O
   pub listing_at : ListingIsNewest moments
   listing_at before after m listed parts call answer =
       let r = at_moment before after m parts in
-      subst (λ (l : List Listed). IsNewest (history [] before) (newest l)) (sym (listing_is before after m listed r call answer)) (listing_is_newest K script (replies_of outcomes) run.tags r.past r.os (history [] before) r.stands)
+      subst (λ (l : List Listed). IsNewest (history [] before) (newest l)) (sym (listing_is before after m listed r call answer)) (listing_is_newest K script (replies_of outcomes) run.tags r.past r.os (history [] before) r.clock r.stands)
 
   -- the version that a statement read was the newest at some moment of its own
   record Saw (t : Tag) (v : ℕ) : Type 0 where
