@@ -1,6 +1,6 @@
 -- What entries tell of the clock, and the clocks of puts.
 -- Stands (Standing) has the clock of the last moment: readings and puts so far are no later.
-use Rattle.std.proofs.Common.{◌≡◌, ◌⊎◌, inl, inr, ℕ, ◌≤◌, Bool, true, false, List, [], ◌∷◌, ◌++◌, refl, sym, ◌∙◌, ap, subst, arith}
+use Rattle.std.proofs.Common.{◌≡◌, ◌⊎◌, inl, inr, ℕ, ◌≤◌, ◌<◌, ◌^◌, Bool, true, false, List, [], ◌∷◌, ◌++◌, refl, sym, ◌∙◌, ap, subst, arith}
 use Rattle.std.specs.Prelude.{Option, Some, None, if◌then◌else◌}
 use Rattle.std.specs.Str.{bytes_eq}
 use Rattle.edge_api.specs.declared.call.Tag.{Tag}
@@ -10,6 +10,7 @@ use Rattle.edge_api.specs.declared.call.Answer.{Answer}
 use Rattle.edge_api.specs.declared.call.Answer.TheVariants.{Fault, Body, Missing, Stored, Taken, Names, Gone, Time, Waited}
 use Rattle.edge_api.specs.declared.call.JournalEntry.{JournalEntry}
 use Rattle.edge_api.specs.Journal.{same_tag}
+use Rattle.table_rules.specs.Names.{commit_text}
 use Rattle.call_phases.specs.Phases.{Entries}
 use Rattle.actor_core.specs.Entries.{own}
 use Rattle.actor_core.proofs.Owners.{same_tag_is}
@@ -37,6 +38,12 @@ pub record Since (past : Entries) (p : Put) : Type 0 where
   pub start : ℕ
   pub started : first_past told_by (own p.tag past) ≡ Some start
   pub before : start ≤ p.at
+
+-- The start of a statement that listed this version of the log as the newest. What was committed above it landed no earlier
+pub record Lists (past : Entries) (ps : List Put) (t : Tag) (r : ℕ) : Type 0 where
+  pub start : ℕ
+  pub started : first_past told_by (own t past) ≡ Some start
+  pub later : (w : ℕ) (p : Put) → r < w → w < 2 ^ 64 → put_under ps (commit_text w) ≡ Some p → start ≤ p.at
 
 pub since_more : (past : Entries) (e : JournalEntry) (p : Put) → Since past p → Since (e ∷ past) p
 since_more past e p k = record { start = k.start; started = given_more told_by p.tag e past k.start k.started; before = k.before }
@@ -93,6 +100,21 @@ told_call (Replace name body) a s h = cc
 told_call (ListNames prefix) a s h = cc
 told_call (Delete name) a s h = cc
 told_call (Wait time) a s h = cc
+
+-- the newest entry gives it first, or one before
+pub given_now : (given : Call → Answer → Option ℕ) (t : Tag) (e : JournalEntry) (past : Entries) (r : ℕ) → first_past given (own t (e ∷ past)) ≡ Some r → (first_past given (own t past) ≡ Some r) ⊎ ((e.tag ≡ t) × (given e.call e.answer ≡ Some r))
+given_now given t e past r h = by (same_tag t e.tag) refl h
+  where
+    either : (a b : Option ℕ) → or_first a b ≡ Some r → (a ≡ Some r) ⊎ (b ≡ Some r)
+    either None b h = inr h
+    either (Some a) b h = inl h
+
+    by : (c : Bool) → same_tag t e.tag ≡ c → first_past given (if c then e ∷ own t past else own t past) ≡ Some r → (first_past given (own t past) ≡ Some r) ⊎ ((e.tag ≡ t) × (given e.call e.answer ≡ Some r))
+    by true is h = elim (either (first_past given (own t past)) (given e.call e.answer) h) [ inl old ↦ inl old | inr new ↦ inr (sym (same_tag_is t e.tag is), new) ]
+    by false is h = inl h
+
+pub lists_more : (past : Entries) (e : JournalEntry) (ps : List Put) (t : Tag) (r : ℕ) → Lists past ps t r → Lists (e ∷ past) ps t r
+lists_more past e ps t r k = record { start = k.start; started = given_more told_by t e past k.start k.started; later = k.later }
 
 -- a start was told
 first_told : (past : Entries) (s : ℕ) → first_past told_by past ≡ Some s → ToldIn past s

@@ -25,16 +25,17 @@ use Rattle.table_laws.proofs.CommitEffects.{Says}
 use Rattle.table_laws.specs.History.{Put, put_under, body_of}
 use Rattle.table_laws.specs.Runs.{listed_by, told_by, version_put}
 use Rattle.table_laws.proofs.Sessions.{GotIn, StoredIn}
-use Rattle.table_laws.proofs.Lawful.{Known, PutIn, NoPut, ToldIn, FoundMissing, first_past, Knows, versions_down, MayPut, IsFile, IsTable, IsCommit}
+use Rattle.table_laws.proofs.Lawful.{Known, PutIn, NoPut, ToldIn, GotBefore, SeenIn, FoundMissing, first_past, Knows, versions_down, MayPut, IsFile, IsTable, IsCommit}
 use Rattle.table_laws.proofs.Known.{knows_more}
 use Rattle.table_laws.proofs.Phases.{same_put}
 use Rattle.table_laws.proofs.Versions.{commit_put}
 use Rattle.table_laws.proofs.Names.{same_file}
-use Rattle.table_laws.proofs.Puts.{or_else, body_at, put_under-push, object_at-with}
-use Rattle.table_laws.proofs.Shown.{InPut, Sure, own_got, stored_now, put_more, put_now, missing_now, one_more, put_of_body, given_more, kept_put, kept_body, old_or_new, one_under, one_itself, suc_same, IsMadeIn, IsPutBy}
+use Rattle.table_laws.proofs.Members.{IsIn, in_with, none_with}
+use Rattle.table_laws.proofs.Puts.{or_else, put_under-push}
+use Rattle.table_laws.proofs.Shown.{InPut, PutBefore, PutAt, PutAs, one_other, Sure, own_got, stored_now, put_more, put_now, missing_now, one_more, put_of_body, given_more, kept_put, kept_body, old_or_new, one_under, one_itself, suc_same, IsMadeIn, IsPutBy}
 use Rattle.table_laws.proofs.Standing.{Committed, IsMade, Stands, put_by_more, commit_more, made_more, new_commit, new_table, not_lost, quiet}
 use Rattle.table_laws.proofs.Puts.{push_once}
-use Rattle.table_laws.proofs.Clocks.{Since, since_more, to_later, to_push, rise_push, start_told}
+use Rattle.table_laws.proofs.Clocks.{Since, Lists, given_now, since_more, to_later, to_push, rise_push, start_told}
 
 module _ (K : Tag → List ℕ → List ℕ → Type 0) (script : Tag → Option Statement) (replies : Tag → Option Reply) (tags : (tag : Tag) (statement : Statement) → script tag ≡ Some statement → IsTag tag) where
   module _ (past : Entries) (os : Objects) (ps : List Put) (before : ℕ) (s : Stands K script replies tags past os ps before)
@@ -82,30 +83,16 @@ module _ (K : Tag → List ℕ → List ℕ → Type 0) (script : Tag → Option
     which : (n : List ℕ) (q : Put) → put_under more n ≡ Some q → (put_under ps n ≡ Some q) ⊎ ((name ≡ n) × (the_put ≡ q))
     which n q h = elim (old_or_new (put_under ps n) (put_under (the_put ∷ []) n) q (sym (push n) ∙ h)) [ inl old ↦ inl old | inr new ↦ inr (one_under the_put q n new) ]
 
-    object_new : (n : List ℕ) → object_at now n ≡ or_else (object_at os n) (object_at ((name, the_object) ∷ []) n)
-    object_new n = object_at-with os name the_object n free
-
-    add_agree : (n b : List ℕ) → body_at (object_at now n) ≡ Some b → InPut more n b
-    add_agree n b h = by (object_at os n) refl (sym (ap body_at (object_new n)) ∙ h)
-      where
-        new_one : (q : Bool) → bytes_eq name n ≡ q → body_at (if q then Some the_object else None) ≡ Some b → InPut more n b
-        new_one true e h = subst (λ (m : List ℕ). InPut more m b) ((bytes_eq-Decides name n).0 e) (ap body_of there_now ∙ h)
-        new_one false e h = cc
-
-        by : (o : Option Object) → object_at os n ≡ o → body_at (or_else o (object_at ((name, the_object) ∷ []) n)) ≡ Some b → InPut more n b
-        by (Some x) e h = still n b (s.agree n b (ap body_at e ∙ h))
-        by None e h = new_one (bytes_eq name n) refl h
+    add_agree : (n : List ℕ) (o : Object) → IsIn now n o → PutAs more n o
+    add_agree n o h = elim (in_with os name the_object n o h) [
+      | inl new ↦ record { put = the_put; is = ap (λ (m : List ℕ). put_under more m) new.0 ∙ there_now; body = ap (λ (x : Object). x.body) (sym new.1); at = ap (λ (x : Object). x.put_at) (sym new.1) }
+      | inr old ↦ let p = s.agree n o old in record { put = p.put; is = still_put n p.put p.is; body = p.body; at = p.at }
+    ]
 
     add_logs : (v : ℕ) → object_at now (commit_text v) ≡ None → put_under more (commit_text v) ≡ None
-    add_logs v h = by (object_at os (commit_text v)) refl (sym (object_new (commit_text v)) ∙ h)
-      where
-        new_none : (q : Bool) → (if q then Some the_object else None) ≡ None → (if q then Some the_put else None) ≡ None
-        new_none true h = cc
-        new_none false h = refl
-
-        by : (o : Option Object) → object_at os (commit_text v) ≡ o → or_else o (object_at ((name, the_object) ∷ []) (commit_text v)) ≡ None → put_under more (commit_text v) ≡ None
-        by (Some x) e h = cc
-        by None e h = push (commit_text v) ∙ ap (λ (o : Option Put). or_else o (put_under (the_put ∷ []) (commit_text v))) (s.logs v e) ∙ new_none (bytes_eq name (commit_text v)) h
+    add_logs v h =
+        let two = none_with os name the_object (commit_text v) h in
+        push (commit_text v) ∙ ap (λ (o : Option Put). or_else o (put_under (the_put ∷ []) (commit_text v))) (s.logs v two.0) ∙ one_other the_put (commit_text v) two.1
 
     add_owned : (t : Tag) (start : ℕ) (q : Put) → IsTag t → put_under more (data_text t start 0) ≡ Some q → (a : Answer) × PutIn (own t (the_entry ∷ past)) (data_text t start 0) q.body a
     add_owned t start q right h = elim (which (data_text t start 0) q h) [
@@ -229,6 +216,33 @@ module _ (K : Tag → List ℕ → List ℕ → Type 0) (script : Tag → Option
     add_told time (inl now) = let bad = now.0 in cc
     add_told time (inr old) = let told = s.told time old in omega (arith, told, le)
 
+    add_lists : (t : Tag) (r : ℕ) → first_past listed_by (own t (the_entry ∷ past)) ≡ Some r → Lists (the_entry ∷ past) more t r
+    add_lists t r h = elim (given_now listed_by t the_entry past r h) [ inl old ↦ on (s.lists t r old) | inr new ↦ absurd (none answer new.1) ]
+      where
+        none : (a : Answer) → listed_by (PutNew name body) a ≡ Some r → ⊥
+        none a k = cc
+
+        on : Lists past ps t r → Lists (the_entry ∷ past) more t r
+        on k = record {
+          start = k.start;
+          started = given_more told_by t the_entry past k.start k.started;
+          later = λ w p above small is. elim (which (commit_text w) p is) [
+            | inl old ↦ k.later w p above small old
+            | inr new ↦
+                let at : clock ≡ p.at = ap (λ (x : Put). x.at) new.1 in
+                let told = s.told k.start (start_told t past k.start k.started) in
+                omega (arith, at, told, le)
+          ];
+        }
+
+    add_got_before : (time : ℕ) (n b : List ℕ) → GotBefore (the_entry ∷ past) time n b → PutBefore more time n b
+    add_got_before time n b (inl now) = let bad = now.0 in cc
+    add_got_before time n b (inr old) = let p = s.got_before time n b old in (p.0, still_put n p.0 p.1, p.2, p.3)
+
+    add_seen : (n : List ℕ) (at : ℕ) → SeenIn (the_entry ∷ past) n at → PutAt more n at
+    add_seen n at (inl now) = let bad = now.2 in cc
+    add_seen n at (inr old) = let p = s.seen n at old in (p.0, still_put n p.0 p.1, p.2)
+
     pub added : Stands K script replies tags (the_entry ∷ past) now more clock
     added = record {
       agree = add_agree;
@@ -246,4 +260,7 @@ module _ (K : Tag → List ℕ → List ℕ → Type 0) (script : Tag → Option
       times = to_push clock ps the_put (to_later before clock le ps s.times) (omega arith);
       rising = rise_push before ps the_put s.times le s.rising;
       since = λ n p h. elim (which n p h) [ inl old ↦ since_more past the_entry p (s.since n p old) | inr new ↦ subst (Since (the_entry ∷ past)) new.1 add_since ];
+      lists = add_lists;
+      got_before = add_got_before;
+      seen = add_seen;
     }

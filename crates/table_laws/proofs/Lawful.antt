@@ -5,7 +5,8 @@ use Rattle.edge_api.specs.declared.call.Tag.{Tag}
 use Rattle.edge_api.specs.declared.call.Call.{Call}
 use Rattle.edge_api.specs.declared.call.Call.TheVariants.{Get, PutNew, Put as Replace, List as ListNames, Delete, Now, Wait}
 use Rattle.edge_api.specs.declared.call.Answer.{Answer}
-use Rattle.edge_api.specs.declared.call.Answer.TheVariants.{Fault, Missing, Taken, Time}
+use Rattle.edge_api.specs.declared.call.Answer.TheVariants.{Fault, Missing, Taken, Names, Time}
+use Rattle.edge_api.specs.declared.call.Listed.{Listed}
 use Rattle.row_base.specs.declared.row.ScannedFile.{ScannedFile}
 use Rattle.row_base.specs.Sorting.{Sorts}
 use Rattle.op_types.specs.declared.statement.Statement.{Statement}
@@ -68,6 +69,21 @@ ClaimsNothing past r =
 abbrev pub ToldIn : Entries → ℕ → Type 0
 ToldIn [] time = ⊥
 ToldIn (e ∷ past) time = ((e.call ≡ Now) × (e.answer ≡ Time time)) ⊎ ToldIn past time
+
+-- a body was got before a reading of the clock that told this time
+abbrev pub GotBefore : Entries → ℕ → List ℕ → List ℕ → Type 0
+GotBefore [] time name body = ⊥
+GotBefore (e ∷ past) time name body = ((e.call ≡ Now) × (e.answer ≡ Time time) × GotIn past name body) ⊎ GotBefore past time name body
+
+-- a name is listed with this clock
+abbrev pub IsListed : List Listed → List ℕ → ℕ → Type 0
+IsListed [] name at = ⊥
+IsListed (x ∷ l) name at = ((x.name ≡ name) × (x.put_at ≡ at)) ⊎ IsListed l name at
+
+-- a listing named it so
+abbrev pub SeenIn : Entries → List ℕ → ℕ → Type 0
+SeenIn [] name at = ⊥
+SeenIn (e ∷ past) name at = ((prefix : List ℕ) × (l : List Listed) × (e.call ≡ ListNames prefix) × (e.answer ≡ Names l) × IsListed l name at) ⊎ SeenIn past name at
 
 -- what the entries give first
 abbrev pub first_past : (Call → Answer → Option ℕ) → Entries → Option ℕ

@@ -11,6 +11,7 @@ pub mod Versions
 pub mod Statements
 pub mod Kept
 pub mod Names
+pub mod Members
 pub mod Puts
 pub mod Shown
 pub mod Clocks

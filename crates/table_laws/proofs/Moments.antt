@@ -21,9 +21,8 @@ use Rattle.table_laws.specs.Runs.{replies_of, IsRun}
 use Rattle.table_laws.proofs.Sessions.{SessionKnows}
 use Rattle.table_laws.specs.Laws.{CommitPut, Wins, Loses, Fails, CommitPutsAreDecided}
 use Rattle.table_laws.proofs.Lawful.{MayPut, LawfulBy}
-use Rattle.table_laws.proofs.Puts.{body_at}
+use Rattle.table_laws.proofs.Members.{is_in}
 use Rattle.table_laws.proofs.Tries.{put_under-behind}
-use Rattle.table_laws.proofs.Shown.{put_of_body}
 use Rattle.table_laws.proofs.Standing.{Keeps, nothing_stands, lawful_next, not_own}
 use Rattle.table_laws.proofs.Journals.{StandsAt, stands_at}
 use Rattle.table_laws.proofs.Ends.{keeps_answered}
@@ -86,8 +85,8 @@ module _ (K : Tag → List ℕ → List ℕ → Type 0) (script : Tag → Option
         by (Some o) at answers =
             let next = lawful_next K script replies tags r.past m.entry (entries_of rest) r.keeps in
             let may : MayPut (K m.entry.tag) m.entry.tag next.0 (own m.entry.tag r.past) (commit_text v) body = subst (LawfulBy (K m.entry.tag) m.entry.tag next.0 (own m.entry.tag r.past)) is next.2 in
-            let winner = put_of_body (put_under (history [] before) (commit_text v)) o.body ((r.stands).agree (commit_text v) o.body (ap body_at at)) in
-            Loses winner.0 winner.1 (λ same. not_own K script replies tags r.past r.os (history [] before) r.clock r.stands m.entry.tag next.0 next.1 (commit_text v) body may v refl winner.0 winner.1 same)
+            let winner = (r.stands).agree (commit_text v) o (is_in r.os (commit_text v) o at) in
+            Loses winner.put winner.is (λ same. not_own K script replies tags r.past r.os (history [] before) r.clock r.stands m.entry.tag next.0 next.1 (commit_text v) body may v refl winner.put winner.is same)
             (taken_or_fault m.entry.answer answers)
 
 pub puts_at_moments : (limit : ℕ) (script : Tag → Option Statement) (outcomes : Tag → Option Finish) (moments : List Moment) → IsLegal [] 0 moments → IsRun limit script outcomes (entries_of moments) → CommitPutsAreDecided moments

@@ -5,10 +5,12 @@ use Rattle.std.proofs.Common.{◌≡◌, inl, inr, ℕ, suc, ◌+◌, ◌≤◌,
 use Rattle.std.proofs.lemmas.List.{append-nil}
 use Rattle.std.specs.Prelude.{Option, Some, None, if◌then◌else◌}
 use Rattle.edge_api.specs.declared.call.Tag.{Tag}
-use Rattle.edge_api.specs.declared.call.Call.TheVariants.{Get, PutNew, Now}
+use Rattle.edge_api.specs.declared.call.Call.TheVariants.{Get, PutNew, List as ListNames, Now}
 use Rattle.edge_api.specs.declared.call.Answer.{Answer}
-use Rattle.edge_api.specs.declared.call.Answer.TheVariants.{Body, Missing, Stored, Time}
+use Rattle.edge_api.specs.declared.call.Answer.TheVariants.{Body, Missing, Stored, Names, Time}
 use Rattle.edge_api.specs.declared.call.JournalEntry.{JournalEntry}
+use Rattle.edge_api.specs.declared.call.Listed.{Listed}
+use Rattle.edge_api.specs.declared.call.Object.{Object}
 use Rattle.edge_api.specs.Journal.{Objects, same_tag, object_at}
 use Rattle.op_types.specs.declared.statement.Statement.{Statement}
 use Rattle.op_types.specs.declared.statement.Statement.TheVariants.{Table}
@@ -36,12 +38,12 @@ use Rattle.table_laws.specs.Views.{PutOnce}
 use Rattle.table_laws.specs.History.{Put, put_under, body_of}
 use Rattle.table_laws.specs.Runs.{listed_by, told_by, version_put, versions_put}
 use Rattle.table_laws.proofs.Sessions.{GotIn, StoredIn}
-use Rattle.table_laws.proofs.Lawful.{PutIn, ToldIn, FoundMissing, first_past, Knows, versions_down, IsCommitOf, MayPut, IsFile, IsTable, IsCommit, LawfulBy, AllLawful}
+use Rattle.table_laws.proofs.Lawful.{PutIn, ToldIn, GotBefore, IsListed, SeenIn, FoundMissing, first_past, HasStart, Knows, versions_down, IsCommitOf, MayPut, IsFile, IsTable, IsCommit, LawfulBy, AllLawful}
 use Rattle.table_laws.proofs.Known.{knows_more}
 use Rattle.table_laws.proofs.Versions.{data_put}
-use Rattle.table_laws.proofs.Clocks.{AllTo, NeverFall, Since, since_more, to_later}
-use Rattle.table_laws.proofs.Puts.{body_at}
-use Rattle.table_laws.proofs.Shown.{InPut, Sure, sure_more, own_got, stored_now, put_more, missing_now, none_more, more_after, given_more, suc_same, some_same, IsMadeIn, IsPutBy}
+use Rattle.table_laws.proofs.Clocks.{AllTo, NeverFall, Since, Lists, since_more, lists_more, to_later, put_to, given_now}
+use Rattle.table_laws.proofs.Members.{IsIn}
+use Rattle.table_laws.proofs.Shown.{InPut, PutBefore, PutAt, PutAs, put_with, Sure, sure_more, own_got, stored_now, put_more, missing_now, none_more, more_after, given_more, suc_same, some_same, IsMadeIn, IsPutBy}
 
 module _ (K : Tag → List ℕ → List ℕ → Type 0) (script : Tag → Option Statement) (replies : Tag → Option Reply) (tags : (tag : Tag) (statement : Statement) → script tag ≡ Some statement → IsTag tag) where
   -- a statement's entries from here on are lawful
@@ -96,7 +98,7 @@ module _ (K : Tag → List ℕ → List ℕ → Type 0) (script : Tag → Option
 
   -- by the entries so far, the newest first, the objects and the puts that they leave, and the clock of the last moment
   pub record Stands (past : Entries) (os : Objects) (ps : List Put) (clock : ℕ) : Type 0 where
-    pub agree : (n b : List ℕ) → body_at (object_at os n) ≡ Some b → InPut ps n b
+    pub agree : (n : List ℕ) (o : Object) → IsIn os n o → PutAs ps n o
     pub logs : (v : ℕ) → object_at os (commit_text v) ≡ None → put_under ps (commit_text v) ≡ None
     pub owned : (t : Tag) (start : ℕ) (q : Put) → IsTag t → put_under ps (data_text t start 0) ≡ Some q → (a : Answer) × PutIn (own t past) (data_text t start 0) q.body a
     pub made : (n : List ℕ) (p : Put) → put_under ps n ≡ Some p → IsMadeIn past n p
@@ -111,10 +113,13 @@ module _ (K : Tag → List ℕ → List ℕ → Type 0) (script : Tag → Option
     pub times : AllTo clock ps
     pub rising : NeverFall ps
     pub since : (n : List ℕ) (p : Put) → put_under ps n ≡ Some p → Since past p
+    pub lists : (t : Tag) (r : ℕ) → first_past listed_by (own t past) ≡ Some r → Lists past ps t r
+    pub got_before : (time : ℕ) (n b : List ℕ) → GotBefore past time n b → PutBefore ps time n b
+    pub seen : (n : List ℕ) (at : ℕ) → SeenIn past n at → PutAt ps n at
 
   pub nothing_stands : Stands [] [] [] 0
   nothing_stands = record {
-    agree = λ n b h. cc;
+    agree = λ n o h. absurd h;
     logs = λ v h. refl;
     owned = λ t start q is h. cc;
     made = λ n p h. cc;
@@ -129,6 +134,9 @@ module _ (K : Tag → List ℕ → List ℕ → Type 0) (script : Tag → Option
     times = tt;
     rising = tt;
     since = λ n p h. cc;
+    lists = λ t r h. cc;
+    got_before = λ time n b h. absurd h;
+    seen = λ n at h. absurd h;
   }
 
   pub put_by_more : (ps qs : List Put) → ((n : List ℕ) (p : Put) → put_under ps n ≡ Some p → put_under qs n ≡ Some p) → (t : Tag) (n b : List ℕ) → IsPutBy ps t n b → IsPutBy qs t n b
@@ -160,19 +168,23 @@ module _ (K : Tag → List ℕ → List ℕ → Type 0) (script : Tag → Option
   pub made_more : (past : Entries) (e : JournalEntry) (n : List ℕ) (p : Put) → IsMadeIn past n p → IsMadeIn (e ∷ past) n p
   made_more past e n p m = record { answer = m.answer; made = put_more p.tag e past n p.body m.answer m.made; landed = m.landed }
 
-  -- what an entry that puts nothing shows, at the clock of its moment
-  pub record Quiet (past : Entries) (ps : List Put) (clock : ℕ) (e : JournalEntry) (at : ℕ) : Type 0 where
+  -- What an entry that puts nothing shows, by the objects after it and the clock of its moment. Objects that are no commits may go
+  pub record Quiet (past : Entries) (os : Objects) (ps : List Put) (clock : ℕ) (e : JournalEntry) (now : Objects) (at : ℕ) : Type 0 where
     pub le : clock ≤ at
+    pub among : (n : List ℕ) (o : Object) → IsIn now n o → IsIn os n o
+    pub log : (v : ℕ) → object_at now (commit_text v) ≡ None → object_at os (commit_text v) ≡ None
     pub gets : (n b : List ℕ) → e.call ≡ Get n → e.answer ≡ Body b → InPut ps n b
     pub misses : (v : ℕ) → e.call ≡ Get (commit_text v) → e.answer ≡ Missing → put_under ps (commit_text v) ≡ None
     pub stores : (n b : List ℕ) → e.call ≡ PutNew n b → e.answer ≡ Stored → ⊥
     pub silent : (v : ℕ) (p : Put) → put_under ps (commit_text (suc v)) ≡ Some p → Committed past ps v p → e.tag ≡ p.tag → version_put e.call ≡ None
     pub tells : (time : ℕ) → e.call ≡ Now → e.answer ≡ Time time → time ≡ at
+    pub names : (prefix : List ℕ) (l : List Listed) → e.call ≡ ListNames prefix → e.answer ≡ Names l → (n : List ℕ) (put_at : ℕ) → IsListed l n put_at → PutAt ps n put_at
+    pub newest : (r : ℕ) → listed_by e.call e.answer ≡ Some r → HasStart (own e.tag past) × ((w : ℕ) → r < w → w < 2 ^ 64 → put_under ps (commit_text w) ≡ None)
 
-  pub unchanged : (past : Entries) (os : Objects) (ps : List Put) (clock : ℕ) (e : JournalEntry) (at : ℕ) → Stands past os ps clock → Quiet past ps clock e at → Stands (e ∷ past) os ps at
-  unchanged past os ps clock e at s q = record {
-    agree = s.agree;
-    logs = s.logs;
+  pub unchanged : (past : Entries) (os : Objects) (ps : List Put) (clock : ℕ) (e : JournalEntry) (now : Objects) (at : ℕ) → Stands past os ps clock → Quiet past os ps clock e now at → Stands (e ∷ past) now ps at
+  unchanged past os ps clock e now at s q = record {
+    agree = λ n o h. s.agree n o (q.among n o h);
+    logs = λ v h. s.logs v (q.log v h);
     owned = λ t start p is h. let o = s.owned t start p is h in (o.0, put_more t e past _ _ _ o.1);
     made = λ n p h. made_more past e n p (s.made n p h);
     missing = λ t v p h k same. elim (missing_now t e past (commit_text v) h) [ inl now ↦ not_there p (sym (q.misses v now.1 now.2) ∙ k) | inr before ↦ s.missing t v p before.1 k same ];
@@ -186,10 +198,25 @@ module _ (K : Tag → List ℕ → List ℕ → Type 0) (script : Tag → Option
     times = to_later clock at q.le ps s.times;
     rising = s.rising;
     since = λ n p h. since_more past e p (s.since n p h);
+    lists = λ t r h. elim (given_now listed_by t e past r h) [ inl old ↦ lists_more past e ps t r (s.lists t r old) | inr new ↦ listed t r new.0 (q.newest r new.1) ];
+    got_before = λ time n b h. elim h [ inl now ↦ got_now time n b (q.tells time now.0 now.1) (put_with ps n b (s.got n b now.2)) | inr before ↦ s.got_before time n b before ];
+    seen = λ n put_at h. elim h [ inl now ↦ q.names now.0 now.1 now.2 now.3 n put_at now.4 | inr before ↦ s.seen n put_at before ];
   }
     where
       not_there : (p : Put) → None ≡ Some p → ⊥
       not_there p h = cc
+
+      -- what was got so far was put by now
+      got_now : (time : ℕ) (n b : List ℕ) → time ≡ at → (p : Put) × (put_under ps n ≡ Some p) × (p.body ≡ b) → PutBefore ps time n b
+      got_now time n b same p = let old = put_to clock ps n p.0 s.times p.1 in let le = q.le in (p.0, p.1, p.2, omega (arith, old, le, same))
+
+      -- nothing is above the newest version of the log when it is listed
+      listed : (t : Tag) (r : ℕ) → e.tag ≡ t → HasStart (own e.tag past) × ((w : ℕ) → r < w → w < 2 ^ 64 → put_under ps (commit_text w) ≡ None) → Lists (e ∷ past) ps t r
+      listed t r same k = record {
+        start = k.0.0;
+        started = given_more told_by t e past k.0.0 (subst (λ (u : Tag). first_past told_by (own u past) ≡ Some k.0.0) same k.0.1);
+        later = λ w p above small is. absurd (not_there p (sym (k.1 w above small) ∙ is));
+      }
 
   -- the one put that is new, if it is a commit
   pub new_commit : (tag : Tag) (statement : Statement) (past : Entries) (name body : List ℕ) (v : ℕ) → suc v < 2 ^ 64 → MayPut (K tag) tag statement past name body → name ≡ commit_text (suc v)

@@ -28,7 +28,7 @@ use Rattle.table_laws.proofs.Shown.{one_under}
 use Rattle.table_laws.proofs.Tries.{put_under-front}
 use Rattle.table_laws.proofs.Standing.{Keeps, nothing_stands}
 use Rattle.table_laws.proofs.Readings.{some_put}
-use Rattle.table_laws.proofs.Listings.{listing_is_newest, newest_there, listed_object}
+use Rattle.table_laws.proofs.Listings.{given_by, listing_is_newest, newest_there, listed_object}
 use Rattle.table_laws.proofs.Journals.{StandsAt, stands_at}
 use Rattle.table_laws.proofs.Ends.{keeps_answered}
 
@@ -53,28 +53,6 @@ record ListedAt (moments : List Moment) (t : Tag) (v : ℕ) : Type 0 where
   listed : List Listed
   answer : m.entry.answer ≡ Names listed
   is : newest listed ≡ Some v
-
--- what gives a version read is a listing of the log
-given_by : (call : Call) (answer : Answer) (v : ℕ) → listed_by call answer ≡ Some v → (call ≡ ListNames log_prefix) × (listed : List Listed) × (answer ≡ Names listed) × (newest listed ≡ Some v)
-given_by (ListNames prefix) (Names l) v h = by (bytes_eq prefix log_prefix) refl h
-  where
-    by : (c : Bool) → bytes_eq prefix log_prefix ≡ c → (if c then newest l else None) ≡ Some v → (ListNames prefix ≡ ListNames log_prefix) × (listed : List Listed) × (Names l ≡ Names listed) × (newest listed ≡ Some v)
-    by true e k = (ap (λ (n : List ℕ). ListNames n) ((bytes_eq-Decides prefix log_prefix).0 e), l, refl, k)
-    by false e k = cc
-given_by (ListNames prefix) Fault v h = cc
-given_by (ListNames prefix) (Body b) v h = cc
-given_by (ListNames prefix) Missing v h = cc
-given_by (ListNames prefix) Stored v h = cc
-given_by (ListNames prefix) Taken v h = cc
-given_by (ListNames prefix) Gone v h = cc
-given_by (ListNames prefix) (Time t) v h = cc
-given_by (ListNames prefix) Waited v h = cc
-given_by (Get n) answer v h = cc
-given_by (PutNew n b) answer v h = cc
-given_by (Replace n b) answer v h = cc
-given_by (Delete n) answer v h = cc
-given_by Now answer v h = cc
-given_by (Wait t) answer v h = cc
 
 first_of : (a b : Option ℕ) (v : ℕ) → or_first a b ≡ Some v → (a ≡ Some v) ⊎ (b ≡ Some v)
 first_of None b v h = inr h
