@@ -10,7 +10,6 @@ use Rattle.std.specs.Cmp.Lexicographic.{slice_cmp}
 use Rattle.std.proofs.lemmas.Cmp.{nat_list_eq_equiv}
 use Rattle.std.proofs.lemmas.Map.Text.{is_eq-slice_cmp}
 use Rattle.std.proofs.lemmas.Slice.Eq.{bytes_eq-Decides}
-use Rattle.edge_api.specs.declared.call.Listed.{Listed}
 use Rattle.edge_api.specs.declared.call.Object.{Object}
 use Rattle.edge_api.specs.Journal.{Objects, object_at, with_object, without_object, listing}
 use Rattle.table_laws.proofs.Lawful.{IsListed}
