@@ -1,5 +1,5 @@
 -- What holds at the end of a run.
-use Rattle.std.proofs.Common.{◌≡◌, inl, inr, ℕ, zero, suc, List, [], refl, sym, ◌∙◌, ap, subst}
+use Rattle.std.proofs.Common.{◌≡◌, inl, inr, ℕ, zero, suc, List, [], ◌++◌, refl, sym, ◌∙◌, ap, subst}
 use Rattle.std.proofs.lemmas.List.{append-nil}
 use Rattle.std.specs.Prelude.{Option, Some, None}
 use Rattle.edge_api.specs.declared.call.Tag.{Tag}
@@ -60,13 +60,17 @@ module _ (limit : ℕ) (script : Tag → Option Statement) (outcomes : Tag → O
       part kept held (Some statement) e h =
           answered_lawful (K t) t limit run.limited kept held statement (λ rows is. run.faithful t rows (e ∙ ap (λ (s : Statement). Some s) is)) (own t journal) (outcomes t) h
 
+  -- what stands after a part of the moments
+  pub stands_after : (before rest : List Moment) → moments ≡ before ++ rest → StandsAt K script (replies_of outcomes) run.tags [] [] [] 0 before rest
+  stands_after before rest parts =
+      stands_at K script (replies_of outcomes) run.tags before rest [] [] [] 0 (nothing_stands K script (replies_of outcomes) run.tags) (subst (IsLegal [] 0) parts legal)
+      (subst (λ (ms : List Moment). Keeps K script (replies_of outcomes) run.tags [] (entries_of ms)) parts keeps_answered)
+
   abbrev at_end : Type 0
   at_end = StandsAt K script (replies_of outcomes) run.tags [] [] [] 0 moments []
 
   pub run_end : at_end
-  run_end =
-      stands_at K script (replies_of outcomes) run.tags moments [] [] [] [] 0 (nothing_stands K script (replies_of outcomes) run.tags) (subst (IsLegal [] 0) (sym (append-nil moments)) legal)
-      (subst (λ (ms : List Moment). Keeps K script (replies_of outcomes) run.tags [] (entries_of ms)) (sym (append-nil moments)) keeps_answered)
+  run_end = stands_after moments [] (sym (append-nil moments))
 
   -- what a session knows was put by the end
   pub known_at : (e : at_end) (t : Tag) (n b : List ℕ) → K t n b → InPut (history [] moments) n b

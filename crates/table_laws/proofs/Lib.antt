@@ -30,5 +30,6 @@ pub mod Moments
 pub mod Created
 pub mod Views
 pub mod OneSession
+pub mod Starts
 pub mod ViewsMean
 pub mod Run

@@ -21,9 +21,9 @@ use Rattle.table_laws.specs.Laws.{CommitPut, Wins, Loses, Fails, CommitPutsAreDe
 use Rattle.table_laws.proofs.Lawful.{MayPut, LawfulBy}
 use Rattle.table_laws.proofs.Members.{is_in}
 use Rattle.table_laws.proofs.Tries.{put_under-behind}
-use Rattle.table_laws.proofs.Standing.{Keeps, nothing_stands, lawful_next, not_own}
-use Rattle.table_laws.proofs.Journals.{StandsAt, stands_at}
-use Rattle.table_laws.proofs.Ends.{keeps_answered}
+use Rattle.table_laws.proofs.Standing.{lawful_next, not_own}
+use Rattle.table_laws.proofs.Journals.{StandsAt}
+use Rattle.table_laws.proofs.Ends.{stands_after}
 
 module _ (K : Tag → List ℕ → List ℕ → Type 0) (script : Tag → Option Statement) (replies : Tag → Option Reply) (tags : (tag : Tag) (statement : Statement) → script tag ≡ Some statement → IsTag tag) where
   -- the put of a commit at a moment
@@ -89,9 +89,6 @@ module _ (K : Tag → List ℕ → List ℕ → Type 0) (script : Tag → Option
 
 pub puts_at_moments : (limit : ℕ) (script : Tag → Option Statement) (outcomes : Tag → Option Finish) (moments : List Moment) → IsLegal [] 0 moments → IsRun limit script outcomes (entries_of moments) → CommitPutsAreDecided moments
 puts_at_moments limit script outcomes moments legal run before rest m v body parts small is =
-    let K = SessionKnows (entries_of moments) in
-    let keeps = keeps_answered limit script outcomes moments legal run in
-    let here = stands_at K script (replies_of outcomes) run.tags before (m ∷ rest) [] [] [] 0 (nothing_stands K script (replies_of outcomes) run.tags) (subst (IsLegal [] 0) parts legal)
-    (subst (λ (ms : List Moment). Keeps K script (replies_of outcomes) run.tags [] (entries_of ms)) parts keeps) in
-    let found = decided K script (replies_of outcomes) run.tags before rest m v body is here in
+    let here = stands_after limit script outcomes moments legal run before (m ∷ rest) parts in
+    let found = decided (SessionKnows (entries_of moments)) script (replies_of outcomes) run.tags before rest m v body is here in
     subst (λ (ms : List Moment). CommitPut (history [] before) (history [] ms) v body m) (sym parts) found

@@ -25,11 +25,10 @@ use Rattle.table_laws.proofs.Sessions.{SessionKnows}
 use Rattle.table_laws.proofs.Puts.{or_else}
 use Rattle.table_laws.proofs.Shown.{one_under}
 use Rattle.table_laws.proofs.Tries.{put_under-front}
-use Rattle.table_laws.proofs.Standing.{Keeps, nothing_stands}
 use Rattle.table_laws.proofs.Readings.{some_put}
 use Rattle.table_laws.proofs.Listings.{given_by, listing_is_newest, newest_there, listed_object}
-use Rattle.table_laws.proofs.Journals.{StandsAt, stands_at}
-use Rattle.table_laws.proofs.Ends.{keeps_answered}
+use Rattle.table_laws.proofs.Journals.{StandsAt}
+use Rattle.table_laws.proofs.Ends.{stands_after}
 
 same_number : (a b : ℕ) → a ≡ b → (a == b) ≡ true
 same_number a b is = grind (arith, nat_tests)
@@ -203,9 +202,7 @@ module _ (limit : ℕ) (script : Tag → Option Statement) (outcomes : Tag → O
   At before rest = StandsAt K script (replies_of outcomes) run.tags [] [] [] 0 before rest
 
   at_moment : (before after : List Moment) (m : Moment) → moments ≡ before ++ m ∷ after → At before (m ∷ after)
-  at_moment before after m parts =
-      stands_at K script (replies_of outcomes) run.tags before (m ∷ after) [] [] [] 0 (nothing_stands K script (replies_of outcomes) run.tags) (subst (IsLegal [] 0) parts legal)
-      (subst (λ (ms : List Moment). Keeps K script (replies_of outcomes) run.tags [] (entries_of ms)) parts (keeps_answered limit script outcomes moments legal run))
+  at_moment before after m parts = stands_after limit script outcomes moments legal run before (m ∷ after) parts
 
   -- a listing of the log, by the objects of its moment
   listing_is : (before after : List Moment) (m : Moment) (listed : List Listed) (r : At before (m ∷ after)) → m.entry.call ≡ ListNames log_prefix → m.entry.answer ≡ Names listed → listed ≡ listing r.os log_prefix
