@@ -12,7 +12,7 @@ use Rattle.statement_calls.specs.declared.finish.Finish.{Finish}
 use Rattle.statement_calls.specs.declared.finish.Kept.{Kept}
 use Rattle.actor_core.specs.Entries.{own}
 use Rattle.table_changes.specs.Table.{FileLine, reconciled, rows_in}
-use Rattle.table_laws.specs.History.{body_of, schema_at, rows_of, history}
+use Rattle.table_laws.specs.History.{body_of, meta_at, rows_of, history}
 use Rattle.table_laws.specs.Runs.{kept_in, kept_at, kept_before, replies_of, BeginsWith, IsAnsweredPart, IsRun}
 use Rattle.table_laws.specs.Laws.{VersionsAreSerial, FirstIsEmpty, FirstMakesTable, CommitsOnce, CommitsRead, FilesRead, CommitsLand, RepliesCommitted, RepliesRead}
 use Rattle.table_laws.specs.Folded.{RowsAreFolded}
@@ -137,4 +137,4 @@ module _ (limit : ℕ) (script : Tag → Option Statement) (outcomes : Tag → O
       version given read live_files (claims limit script outcomes moments legal run e t st (Rows version given read live_files) is_st is_reply)
 
 pub first_is_empty : (moments : List Moment) → FirstIsEmpty moments
-first_is_empty moments = ap (λ (ls : List FileLine). rows_in (rows_of (history [] moments) (schema_at (history [] moments) 0)) (reconciled [] ls)) (empty_first (history [] moments))
+first_is_empty moments = ap (λ (ls : List FileLine). rows_in (rows_of (history [] moments) (meta_at (history [] moments) 0)) (reconciled [] ls)) (empty_first (history [] moments))

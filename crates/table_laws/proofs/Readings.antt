@@ -6,7 +6,6 @@ use Rattle.std.specs.Ordering.{is_lt, nat_cmp}
 use Rattle.std.specs.Cmp.Lexicographic.{slice_cmp}
 use Rattle.std.proofs.lemmas.Slice.Eq.{bytes_eq-Decides}
 use Rattle.row_base.specs.declared.row.ScannedFile.{ScannedFile}
-use Rattle.row_base.specs.Schema.{TableSchema}
 use Rattle.table_rules.specs.Names.{commit_text}
 use Rattle.line_texts.specs.Texts.{columns_of_text}
 use Rattle.snapshot_replay.specs.Table.{Add, Snapshot, table_commit}
@@ -14,7 +13,7 @@ use Rattle.snapshot_replay.specs.Table.{Commit as LogCommit, paths_of as said_pa
 use Rattle.statement_calls.specs.Texts.{read_commit}
 use Rattle.statement_calls.specs.Answered.{rows_of_files}
 use Rattle.table_changes.specs.Rows.{Row}
-use Rattle.table_changes.specs.Table.{File, FileLine, Removes, Adds, without_path, placed, reconciled, times, rows_in, lines_of}
+use Rattle.table_changes.specs.Table.{File, MetaData, FileLine, Removes, Adds, without_path, placed, reconciled, times, rows_in, lines_of}
 use Rattle.table_laws.specs.Commits.{file_of}
 use Rattle.table_laws.specs.History.{Put, put_under, body_of, or_nothing, commit_at, rows_of}
 use Rattle.table_laws.specs.Laws.{FileReads, AllFilesRead}
@@ -78,13 +77,13 @@ added_is stamp changes [] a = refl
 added_is stamp changes (g ∷ gone) a = added_is stamp changes gone a
 
 -- the files that were got hold the rows under their paths
-pub scanned_rows : (ps : List Put) (schema : Option TableSchema) (adds : List Add) (fs : List ScannedFile) → AllScanned (InPut ps) (said_paths adds) fs → rows_of_files fs ≡ rows_in (rows_of ps schema) (map file_of adds)
-scanned_rows ps schema [] [] h = refl
-scanned_rows ps schema [] (f ∷ fs) h = absurd h
-scanned_rows ps schema (a ∷ adds) [] h = absurd h
-scanned_rows ps schema (a ∷ adds) (f ∷ fs) h =
-    ap (λ (l : List Row). l ++ rows_of_files fs) (file_is ps schema (file_of a) h.0.0 f.rows h.0.1 h.0.2)
-    ∙ ap (λ (l : List Row). rows_of ps schema (file_of a) ++ l) (scanned_rows ps schema adds fs h.1)
+pub scanned_rows : (ps : List Put) (at : Option MetaData) (adds : List Add) (fs : List ScannedFile) → AllScanned (InPut ps) (said_paths adds) fs → rows_of_files fs ≡ rows_in (rows_of ps at) (map file_of adds)
+scanned_rows ps at [] [] h = refl
+scanned_rows ps at [] (f ∷ fs) h = absurd h
+scanned_rows ps at (a ∷ adds) [] h = absurd h
+scanned_rows ps at (a ∷ adds) (f ∷ fs) h =
+    ap (λ (l : List Row). l ++ rows_of_files fs) (file_is ps at (file_of a) h.0.0 f.rows h.0.1 h.0.2)
+    ∙ ap (λ (l : List Row). rows_of ps at (file_of a) ++ l) (scanned_rows ps at adds fs h.1)
 
 pub scanned_long : (G : List ℕ → List ℕ → Type 0) (paths : List (List ℕ)) (fs : List ScannedFile) → AllScanned G paths fs → length fs ≡ length paths
 scanned_long G [] [] h = refl

@@ -8,7 +8,6 @@ use Rattle.edge_api.specs.declared.call.Tag.{Tag}
 use Rattle.edge_api.specs.Journal.{Objects}
 use Rattle.row_base.specs.Sorting.{Sorts}
 use Rattle.row_base.specs.Bags.{count_of, SameRows}
-use Rattle.row_base.specs.Schema.{TableSchema}
 use Rattle.op_types.specs.declared.statement.Statement.{Statement}
 use Rattle.op_types.specs.declared.reply.Reply.{Reply}
 use Rattle.table_rules.specs.Names.{commit_text, data_text}
@@ -22,12 +21,12 @@ use Rattle.statement_calls.specs.Texts.{read_commit, read_file}
 use Rattle.statement_calls.specs.Answered.{names_of, rows_of_files}
 use Rattle.actor_core.specs.Entries.{own}
 use Rattle.table_changes.specs.Rows.{Row}
-use Rattle.table_changes.specs.Table.{File, FileLine, Meta, Commit, newer, reconciled, schema_of, times, rows_in}
+use Rattle.table_changes.specs.Table.{File, MetaData, FileLine, Commit, newer, is_blind, reconciled, times, rows_in}
 use Rattle.table_changes.specs.Conflicts.{first_clash}
 use Rattle.table_changes.specs.Operations.{Operation, IsSound, got_files, taken_files, reads_of}
 use Rattle.table_changes.specs.Laws.{Landed, Appends}
 use Rattle.table_changes.proofs.Winners.{each_version_is_serial}
-use Rattle.table_laws.specs.Commits.{changes_of, files_in, meta_in}
+use Rattle.table_laws.specs.Commits.{changes_of, schema_of, files_in, meta_in}
 use Rattle.table_laws.specs.Operations.{Scope, passes, may, operation_of}
 use Rattle.table_laws.specs.History.{Put, put_under, body_of, commit_at, live_at, meta_at, schema_at, level_for, rows_of, rows_at, IsCommitted}
 use Rattle.table_laws.specs.Runs.{listed_by, version_read}
@@ -84,7 +83,7 @@ module _ (K : Tag → List ℕ → List ℕ → Type 0) (script : Tag → Option
     meta_is = loaded_meta ps k.read k.s known_of.loaded
 
     is_op : operation_of (schema_at ps k.read) k.statement ≡ Some k.op
-    is_op = ap (λ (m : Option Meta). operation_of (schema_of m) k.statement) (sym meta_is) ∙ k.is_op
+    is_op = ap (λ (m : Option MetaData). operation_of (schema_of m) k.statement) (sym meta_is) ∙ k.is_op
 
     sound : IsSound passes may k.op
     sound = each_operation_is_sound (schema_at ps k.read) k.statement k.op is_op
@@ -93,25 +92,25 @@ module _ (K : Tag → List ℕ → List ℕ → Type 0) (script : Tag → Option
     files = subst (λ (fs : List File). AllGot (InPut ps) k.view (got_files k.op fs)) base_is known_of.files
 
     abbrev rows : File → List Row
-    rows = rows_of ps (schema_at ps k.read)
+    rows = rows_of ps (meta_at ps k.read)
 
     -- what the commit says
     says : commit_at ps (suc v) ≡ effect_of p.tag k.start k.op rows (live_at ps k.read)
     says =
         said_is ps (suc v) p.body (effect_of p.tag k.start k.op k.view (files_in k.s)) (ap body_of is) k.says
         ∙ ap (λ (fs : List File). effect_of p.tag k.start k.op k.view fs) base_is
-        ∙ same_effect ps (schema_at ps k.read) k.op sound k.view (live_at ps k.read) files p.tag k.start
+        ∙ same_effect ps (meta_at ps k.read) k.op sound k.view (live_at ps k.read) files p.tag k.start
 
     -- the new rows, which its file holds
     written : k.op.writes rows (live_at ps k.read) ≡ Some known_of.new
     written =
-        sym (same_written ps (schema_at ps k.read) k.op sound k.view (live_at ps k.read) files)
+        sym (same_written ps (meta_at ps k.read) k.op sound k.view (live_at ps k.read) files)
         ∙ ap (λ (fs : List File). k.op.writes k.view fs) (sym base_is) ∙ known_of.written
 
-    filled : (schema : Option TableSchema) → SameRows (rows_in (rows_of ps schema) (new_file p.tag k.start ∷ [])) known_of.new
-    filled schema x =
+    filled : (at : Option MetaData) → SameRows (rows_in (rows_of ps at) (new_file p.tag k.start ∷ [])) known_of.new
+    filled at x =
         let stored = known_of.stored in
-        ap (λ (l : List Row). count_of x l) (append-nil (rows_of ps schema (new_file p.tag k.start)) ∙ sym (file_is ps schema (new_file p.tag k.start) stored.0 known_of.new stored.1 stored.2))
+        ap (λ (l : List Row). count_of x l) (append-nil (rows_of ps at (new_file p.tag k.start)) ∙ sym (file_is ps at (new_file p.tag k.start) stored.0 known_of.new stored.1 stored.2))
 
     right : IsTag p.tag
     right = tags p.tag k.statement k.is_statement
@@ -124,7 +123,7 @@ module _ (K : Tag → List ℕ → List ℕ → Type 0) (script : Tag → Option
       let k = s.commits n two.0 small two.1 in
       let rest = fresh n (omega arith) (one_below n small is) tag start right_tag (λ w q lt. none w q (omega arith)) in
       subst (λ (t : Commit). times (data_text tag start 0) (reconciled (live_at ps n) t.lines) ≡ 0) (sym (says n two.0 small two.1))
-      (none_more (data_text tag start 0) 0 (not k.op.moves) (taken_files (rows_of ps (schema_at ps k.read)) k.op (live_at ps k.read)) (new_file two.0.tag k.start) (live_at ps n) rest
+      (none_more (data_text tag start 0) 0 (not k.op.moves) (taken_files (rows_of ps (meta_at ps k.read)) k.op (live_at ps k.read)) (new_file two.0.tag k.start) (live_at ps n) rest
       (apart two.0.tag k.start tag start (right n two.0 small two.1) right_tag (bytes_eq (data_text two.0.tag k.start 0) (data_text tag start 0)) refl (none n two.0 (omega arith) two.1)))
     where
       apart : (a : Tag) (i : ℕ) (b : Tag) (j : ℕ) → IsTag a → IsTag b → (q : Bool) → bytes_eq (data_text a i 0) (data_text b j 0) ≡ q → (a ≡ b → ⊥) → q ≡ false
@@ -133,7 +132,7 @@ module _ (K : Tag → List ℕ → List ℕ → Type 0) (script : Tag → Option
 
   -- no version between clashes
   cleared : (v : ℕ) (p : Put) (small : suc v < 2 ^ 64) (is : put_under ps (commit_text (suc v)) ≡ Some p) (n : ℕ) → (s.commits v p small is).read ≤ n → n < v
-      → (let k = s.commits v p small is in first_clash (reads_of passes may (level_for ps k.op k.read) None (rows_of ps (schema_at ps k.read)) k.op (live_at ps k.read)) (commit_at ps (suc n)) ≡ None)
+      → (let k = s.commits v p small is in first_clash (reads_of passes may (level_for ps k.op k.read) None (rows_of ps (meta_at ps k.read)) k.op (live_at ps k.read)) (commit_at ps (suc n)) ≡ None)
   cleared v p small is n from to =
       let k = s.commits v p small is in
       let q = (knows v p k).clear n from to in
@@ -142,10 +141,10 @@ module _ (K : Tag → List ℕ → List ℕ → Type 0) (script : Tag → Option
       let same : there.0.body ≡ q.0 = some_same there.0.body q.0 (sym (ap body_of there.1) ∙ q.1) in
       let t : LogCommit = (c.says).0 in
       let reads : read_commit (suc n) q.0 ≡ Some t = ap (read_commit (suc n)) (sym same) ∙ (c.says).1 in
-      let schema = schema_at ps k.read in
-      ap (λ (said : Commit). first_clash (reads_of passes may (level_for ps k.op k.read) None (rows_of ps schema) k.op (live_at ps k.read)) said) (commit_is ps (suc n) q.0 t q.1 reads)
-      ∙ sym (same_judge ps schema k.op (sound v p small is) k.view (live_at ps k.read) (files v p small is) (meta_at ps k.read) t)
-      ∙ ap (λ (m : Option Meta). judge_of m k.op k.view (live_at ps k.read) t) (sym (meta_is v p small is))
+      let seen = meta_at ps k.read in
+      ap (λ (said : Commit). first_clash (reads_of passes may (level_for ps k.op k.read) None (rows_of ps seen) k.op (live_at ps k.read)) said) (commit_is ps (suc n) q.0 t q.1 reads)
+      ∙ sym (same_judge ps seen k.op (sound v p small is) k.view (live_at ps k.read) (files v p small is) (meta_at ps k.read) t)
+      ∙ ap (λ (m : Option MetaData). judge_of m k.op k.view (live_at ps k.read) t) (sym (meta_is v p small is))
       ∙ ap (λ (fs : List File). judge_of (meta_in k.s) k.op k.view fs t) (sym (base_is v p small is))
       ∙ q.2 t reads
 
@@ -158,19 +157,19 @@ module _ (K : Tag → List ℕ → List ℕ → Type 0) (script : Tag → Option
     new = (knows v p (s.commits v p small is)).new;
     written = written v p small is;
     added = new_file p.tag (s.commits v p small is).start ∷ [];
-    filled = filled v p small is (schema_at ps (suc v));
+    filled = filled v p small is (meta_at ps (suc v));
     widen = λ x. x;
-    widens = inl (record { same = ap (λ (t : Commit). schema_of (newer (meta_at ps v) t.meta)) (says v p small is); still = λ x. refl });
+    widens = inl (record { same = ap (λ (t : Commit). rows_of ps (newer (meta_at ps v) t.meta)) (says v p small is); still = λ x. refl });
     stamp = 0;
     lines = ap (λ (t : Commit). t.lines) (says v p small is);
-    blind = ap (λ (t : Commit). t.blind) (says v p small is);
+    blind = ap (λ (t : Commit). is_blind t) (says v p small is);
     fresh = (
       fresh v (omega arith) (one_below v small (is_some (put_under ps (commit_text (suc v))) p is)) p.tag (s.commits v p small is).start (right v p small is)
           (λ w q lt there same. let e = s.single w v q p (omega arith) small there is same in let lt' : w < v = lt in absurd (omega arith)),
       refl,
       tt,
     );
-    holds = (λ o out x has. says_truly (new_file p.tag (s.commits v p small is).start) (rows_of ps (schema_at ps (suc v)) (new_file p.tag (s.commits v p small is).start)) o out x has, tt);
+    holds = (λ o out x has. says_truly (new_file p.tag (s.commits v p small is).start) (rows_of ps (meta_at ps (suc v)) (new_file p.tag (s.commits v p small is).start)) o out x has, tt);
     txn = None;
     txns = ap (λ (t : Commit). t.txns) (says v p small is);
     above = λ app n set. cc;
@@ -214,7 +213,7 @@ module _ (K : Tag → List ℕ → List ℕ → Type 0) (script : Tag → Option
       let same : stored.0 ≡ (file.0).body = some_same stored.0 (file.0).body (sym stored.1 ∙ ap body_of file.1) in
       let reads : FileReads ps (data_text (two.0).tag c.start 0) = (file.0, file.1, (knows v two.0 c).new, ap read_file (sym same) ∙ stored.2) in
       subst (λ (t : Commit). AllFilesRead ps (reconciled (live_at ps v) t.lines)) (sym (says v two.0 small two.1))
-      (lines_read ps 0 (not c.op.moves) (taken_files (rows_of ps (schema_at ps c.read)) c.op (live_at ps c.read)) (new_file (two.0).tag c.start) (live_at ps v) (files_read v (omega (arith, small)) (one_below v small is)) reads)
+      (lines_read ps 0 (not c.op.moves) (taken_files (rows_of ps (meta_at ps c.read)) c.op (live_at ps c.read)) (new_file (two.0).tag c.start) (live_at ps v) (files_read v (omega (arith, small)) (one_below v small is)) reads)
 
   commit_put : (n : ℕ) → n < 2 ^ 64 → IsCommitted ps n → (k : ℕ) → k < n → (p : Put) × (put_under ps (commit_text (suc k)) ≡ Some p)
   commit_put n small is k lt = some_put (put_under ps (commit_text (suc k))) (below n small is (suc k) (omega arith))
@@ -350,8 +349,8 @@ module _ (K : Tag → List ℕ → List ℕ → Type 0) (script : Tag → Option
         let loaded = loaded_more (Known (K t) (own t past)) (InPut ps) more (suc version) c.s c.loaded in
         let scanned = scanned_more (Known (K t) (own t past)) (InPut ps) more (said_paths (c.s).files) c.got c.scanned in
         let base : files_in c.s ≡ live_at ps version = loaded_files ps version c.s loaded in
-        let schema = schema_at ps version in
-        let rows : rows_of_files c.got ≡ rows_at ps version = scanned_rows ps schema (c.s).files c.got scanned ∙ ap (λ (fs : List File). rows_in (rows_of ps schema) fs) base in
+        let seen = meta_at ps version in
+        let rows : rows_of_files c.got ≡ rows_at ps version = scanned_rows ps seen (c.s).files c.got scanned ∙ ap (λ (fs : List File). rows_in (rows_of ps seen) fs) base in
         let q = put_of_body (put_under ps (commit_text version)) loaded.1 loaded.4 in
         let same : (q.0).body ≡ loaded.1 = some_same (q.0).body loaded.1 (sym (ap body_of q.1) ∙ loaded.4) in
         let long : length c.got ≡ length (live_at ps version) = scanned_long (InPut ps) (said_paths (c.s).files) c.got scanned ∙ length-paths (c.s).files ∙ ap (λ (fs : List File). length fs) base in

@@ -12,13 +12,15 @@ use Rattle.edge_api.specs.declared.call.Listed.{Listed}
 use Rattle.edge_api.specs.declared.call.Object.{Object}
 use Rattle.edge_api.specs.Journal.{Entries, Objects, Moment, same_tag, entries_of, object_at}
 use Rattle.table_rules.specs.Names.{log_prefix, commit_text}
+use Rattle.table_rules.specs.Properties.{entry_of}
 use Rattle.table_rules.proofs.Names.{commit_is_read, commits_differ}
 use Rattle.line_texts.proofs.Laws.{columns_read_back}
 use Rattle.snapshot_replay.specs.Table.{table_commit}
 use Rattle.statement_calls.specs.Listing.{commit_of, later, newest}
 use Rattle.actor_core.specs.Entries.{own}
 use Rattle.actor_core.proofs.Owners.{same_tag_is}
-use Rattle.table_changes.specs.Table.{Commit, level_of}
+use Rattle.table_changes.specs.Table.{Commit, WriteSerializable, level_of}
+use Rattle.table_laws.specs.Commits.{meta_of}
 use Rattle.table_laws.specs.History.{Put, put_under, put_if_free, body_of, history}
 use Rattle.table_laws.specs.Runs.{or_first, listed_by, version_read, started_at}
 use Rattle.table_laws.specs.Views.{IsNewest, IsLater, PutOnce}
@@ -205,6 +207,10 @@ later_holds (x ∷ y ∷ z ∷ w ∷ before) after parts =
     let one = same_head (starts first 2) x (lists first 0 ∷ lands second 1 2 ∷ []) (y ∷ z ∷ w ∷ (before ++ after)) parts in
     let two = same_head (lists first 0) y (lands second 1 2 ∷ []) (z ∷ w ∷ (before ++ after)) one.1 in
     absurd (no_more w before after (same_head (lands second 1 2) z [] (w ∷ (before ++ after)) two.1).1)
+-- a table without properties is at the weaker level
+weaker : (columns : List (List ℕ)) → level_of (Some (meta_of columns)) ≡ WriteSerializable
+unfolding entry_of
+weaker columns = refl
 
 pub views_mean : ViewsMean
 views_mean = record {
@@ -226,6 +232,7 @@ views_mean = record {
   later = later_holds;
   early = λ h. let le = h (starts first 2 ∷ lists first 0 ∷ lands second 1 1 ∷ []) [] refl first 0 2 1 (landed second 1 1) (ap (λ (o : Option ℕ). or_first o None) (reads_one 0 (omega arith))) refl (omega arith) small_one (one_itself (landed second 1 1)) in omega (arith, le);
   level = λ columns rows words. ap (λ (t : Commit). level_of t.meta) (commit_is (table_put columns ∷ []) 0 (table_put columns).body (table_commit columns) (ap body_of (one_itself (table_put columns))) (ap (option_map table_commit) (columns_read_back columns words)));
+  level = λ columns rows words. ap (λ (t : Commit). level_of t.meta) (commit_is (table_put columns ∷ []) 0 (table_put columns).body (table_commit columns) (ap body_of (one_itself (table_put columns))) (ap (option_map table_commit) (columns_read_back columns words))) ∙ weaker columns;
   strict = λ columns. refl;
   no_table = λ rows h. cc;
 }
