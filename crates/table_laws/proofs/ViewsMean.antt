@@ -207,6 +207,7 @@ later_holds (x ∷ y ∷ z ∷ w ∷ before) after parts =
     let one = same_head (starts first 2) x (lists first 0 ∷ lands second 1 2 ∷ []) (y ∷ z ∷ w ∷ (before ++ after)) parts in
     let two = same_head (lists first 0) y (lands second 1 2 ∷ []) (z ∷ w ∷ (before ++ after)) one.1 in
     absurd (no_more w before after (same_head (lands second 1 2) z [] (w ∷ (before ++ after)) two.1).1)
+
 -- a table without properties is at the weaker level
 weaker : (columns : List (List ℕ)) → level_of (Some (meta_of columns)) ≡ WriteSerializable
 unfolding entry_of
@@ -231,7 +232,6 @@ views_mean = record {
   precedes = λ h. let k = h (lands first 0 1 ∷ []) (starts first 1 ∷ []) refl (commit_text 0) (landed first 0 1) (one_itself (landed first 0 1)) in no_some k.0 k.1;
   later = later_holds;
   early = λ h. let le = h (starts first 2 ∷ lists first 0 ∷ lands second 1 1 ∷ []) [] refl first 0 2 1 (landed second 1 1) (ap (λ (o : Option ℕ). or_first o None) (reads_one 0 (omega arith))) refl (omega arith) small_one (one_itself (landed second 1 1)) in omega (arith, le);
-  level = λ columns rows words. ap (λ (t : Commit). level_of t.meta) (commit_is (table_put columns ∷ []) 0 (table_put columns).body (table_commit columns) (ap body_of (one_itself (table_put columns))) (ap (option_map table_commit) (columns_read_back columns words)));
   level = λ columns rows words. ap (λ (t : Commit). level_of t.meta) (commit_is (table_put columns ∷ []) 0 (table_put columns).body (table_commit columns) (ap body_of (one_itself (table_put columns))) (ap (option_map table_commit) (columns_read_back columns words))) ∙ weaker columns;
   strict = λ columns. refl;
   no_table = λ rows h. cc;
