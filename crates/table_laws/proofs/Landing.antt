@@ -23,7 +23,7 @@ use Rattle.table_laws.proofs.CommitEffects.{Says}
 use Rattle.table_laws.specs.History.{Put, put_under, body_of}
 use Rattle.table_laws.specs.Runs.{listed_by, told_by, version_put}
 use Rattle.table_laws.proofs.Sessions.{GotIn, StoredIn}
-use Rattle.table_laws.proofs.Lawful.{Known, PutIn, NoPut, ToldIn, GotBefore, SeenIn, FoundMissing, first_past, Knows, versions_down, MayPut, IsFile, IsTable, IsCommit}
+use Rattle.table_laws.proofs.Lawful.{Known, PutIn, NotPut, ToldIn, GotBefore, SeenIn, FoundMissing, first_past, Knows, versions_down, MayPut, IsFile, IsTable, IsCommit}
 use Rattle.table_laws.proofs.Known.{knows_more}
 use Rattle.table_laws.proofs.Phases.{same_put}
 use Rattle.table_laws.proofs.Versions.{commit_put}
@@ -66,12 +66,14 @@ module _ (K : Tag → List ℕ → List ℕ → Type 0) (script : Tag → Option
     free_log : (v : ℕ) → name ≡ commit_text v → put_under ps name ≡ None
     free_log v is = ap (λ (n : List ℕ). put_under ps n) is ∙ s.logs v (ap (λ (n : List ℕ). object_at os n) (sym is) ∙ free)
 
-    free_file : (start : ℕ) → name ≡ data_text tag start 0 → NoPut (own tag past) → (o : Option Put) → put_under ps (data_text tag start 0) ≡ o → o ≡ None
-    free_file start is fresh None e = refl
-    free_file start is fresh (Some q) e = let o = s.owned tag start q (tags tag statement is_statement) e in absurd (fresh _ _ _ o.1)
+    free_file : (start part : ℕ) → part < 2 ^ 32 → name ≡ data_text tag start part → NotPut (own tag past) name → (o : Option Put) → put_under ps (data_text tag start part) ≡ o → o ≡ None
+    free_file start part least is fresh None e = refl
+    free_file start part least is fresh (Some q) e =
+        let o = s.owned tag start part q (tags tag statement is_statement) least e in
+        absurd (fresh q.body o.0 (subst (λ (n : List ℕ). PutIn (own tag past) n q.body o.0) (sym is) o.1))
 
     free_by : MayPut (K tag) tag statement (own tag past) name body → put_under ps name ≡ None
-    free_by (IsFile start started is fresh) = ap (λ (n : List ℕ). put_under ps n) is ∙ free_file start is fresh (put_under ps (data_text tag start 0)) refl
+    free_by (IsFile start part started least is fresh) = ap (λ (n : List ℕ). put_under ps n) is ∙ free_file start part least is fresh (put_under ps (data_text tag start part)) refl
     free_by (IsTable spec started is_table is text none) = free_log 0 is
     free_by (IsCommit k) = free_log (suc k.version) k.is
 
@@ -92,22 +94,22 @@ module _ (K : Tag → List ℕ → List ℕ → Type 0) (script : Tag → Option
         let two = none_with os name the_object (commit_text v) h in
         push (commit_text v) ∙ ap (λ (o : Option Put). or_else o (put_under (the_put ∷ []) (commit_text v))) (s.logs v two.0) ∙ one_other the_put (commit_text v) two.1
 
-    add_owned : (t : Tag) (start : ℕ) (q : Put) → IsTag t → put_under more (data_text t start 0) ≡ Some q → (a : Answer) × PutIn (own t (the_entry ∷ past)) (data_text t start 0) q.body a
-    add_owned t start q right h = elim (which (data_text t start 0) q h) [
-      | inl old ↦ let o = s.owned t start q right old in (o.0, put_more t the_entry past _ _ _ o.1)
+    add_owned : (t : Tag) (start part : ℕ) (q : Put) → IsTag t → part < 2 ^ 32 → put_under more (data_text t start part) ≡ Some q → (a : Answer) × PutIn (own t (the_entry ∷ past)) (data_text t start part) q.body a
+    add_owned t start part q right small h = elim (which (data_text t start part) q h) [
+      | inl old ↦ let o = s.owned t start part q right small old in (o.0, put_more t the_entry past _ _ _ o.1)
       | inr new ↦
           let whose : tag ≡ t = mine may new.0 in (
             answer,
-            subst (λ (u : Tag). PutIn (own u (the_entry ∷ past)) (data_text t start 0) q.body answer) whose
-                (subst (λ (b : List ℕ). PutIn (own tag (the_entry ∷ past)) (data_text t start 0) b answer) (ap (λ (p : Put). p.body) new.1)
-                (put_now the_entry past (data_text t start 0) body (ap (λ (n : List ℕ). PutNew n body) new.0))),
+            subst (λ (u : Tag). PutIn (own u (the_entry ∷ past)) (data_text t start part) q.body answer) whose
+                (subst (λ (b : List ℕ). PutIn (own tag (the_entry ∷ past)) (data_text t start part) b answer) (ap (λ (p : Put). p.body) new.1)
+                (put_now the_entry past (data_text t start part) body (ap (λ (n : List ℕ). PutNew n body) new.0))),
           )
     ]
       where
-        mine : MayPut (K tag) tag statement (own tag past) name body → name ≡ data_text t start 0 → tag ≡ t
-        mine (IsFile i started is fresh) h = same_file tag t i start (tags tag statement is_statement) right (sym is ∙ h)
-        mine (IsTable spec started is_table is text none) h = absurd (data_is_no_commit t start 0 0 (sym h ∙ is))
-        mine (IsCommit k) h = absurd (data_is_no_commit t start 0 (suc k.version) (sym h ∙ k.is))
+        mine : MayPut (K tag) tag statement (own tag past) name body → name ≡ data_text t start part → tag ≡ t
+        mine (IsFile i j started least is fresh) h = same_file tag t i start j part (tags tag statement is_statement) right least small (sym is ∙ h)
+        mine (IsTable spec started is_table is text none) h = absurd (data_is_no_commit t start part 0 (sym h ∙ is))
+        mine (IsCommit k) h = absurd (data_is_no_commit t start part (suc k.version) (sym h ∙ k.is))
 
     add_made : (n : List ℕ) (q : Put) → put_under more n ≡ Some q → IsMadeIn (the_entry ∷ past) n q
     add_made n q h = elim (which n q h) [
@@ -155,9 +157,10 @@ module _ (K : Tag → List ℕ → List ℕ → Type 0) (script : Tag → Option
           read = k.read;
           s = k.s;
           view = k.view;
-          says = subst (λ (w : ℕ). Says (suc w) body (effects.effect_of tag k.start k.op k.view (files_in k.s))) two.1 k.says;
-          knows = subst (λ (w : ℕ). Knows tag k.op k.start k.read k.s k.view (Sure K tag more) (InPut more) w) two.1
-              (knows_more tag k.op k.start k.read k.s k.view (Known (K tag) (own tag past)) (StoredIn (own tag past)) (Sure K tag more) (InPut more) k.version
+          added = k.added;
+          says = subst (λ (w : ℕ). Says (suc w) body (effects.effect_of k.op k.view (files_in k.s) k.added)) two.1 k.says;
+          knows = subst (λ (w : ℕ). Knows tag k.op k.start k.read k.s k.view k.added (Sure K tag more) (InPut more) w) two.1
+              (knows_more tag k.op k.start k.read k.s k.view k.added (Known (K tag) (own tag past)) (StoredIn (own tag past)) (Sure K tag more) (InPut more) k.version
               (λ n b h. elim h [ inl before ↦ inl before | inr got ↦ inr (still n b (s.got n b (own_got tag past n b got))) ])
               (λ n b h. let p = s.stored tag n b h in still n b (ap body_of p.is ∙ ap (λ (b : List ℕ). Some b) p.body)) k.knows);
           started = given_more told_by tag the_entry past _ k.started;
@@ -206,7 +209,7 @@ module _ (K : Tag → List ℕ → List ℕ → Type 0) (script : Tag → Option
         from start is = record { start = start; started = given_more told_by tag the_entry past start is; before = let old = s.told start (start_told tag past start is) in omega (arith, old, le) }
 
         by : MayPut (K tag) tag statement (own tag past) name body → Since (the_entry ∷ past) the_put
-        by (IsFile start started is fresh) = from start started
+        by (IsFile start part started least is fresh) = from start started
         by (IsTable spec started is_table is text none) = from started.0 started.1
         by (IsCommit k) = from k.start k.started
 

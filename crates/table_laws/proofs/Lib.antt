@@ -22,6 +22,7 @@ pub mod Listings
 pub mod Effects
 pub mod Tries
 pub mod Readings
+pub mod Parts
 pub mod Serial
 pub mod Ends
 pub mod Folded

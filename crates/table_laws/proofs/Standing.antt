@@ -81,8 +81,9 @@ module _ (K : Tag → List ℕ → List ℕ → Type 0) (script : Tag → Option
     pub start : ℕ
     pub read : ℕ
     pub view : File → List Row
-    pub says : Says (suc v) p.body (effects.effect_of p.tag start op view (files_in s))
-    pub knows : Knows p.tag op start read s view (Sure K p.tag ps) (InPut ps) v
+    pub added : List File
+    pub says : Says (suc v) p.body (effects.effect_of op view (files_in s) added)
+    pub knows : Knows p.tag op start read s view added (Sure K p.tag ps) (InPut ps) v
     pub started : first_past told_by (own p.tag past) ≡ Some start
     pub listed : first_past listed_by (own p.tag past) ≡ Some read
     pub tries : ℕ
@@ -100,7 +101,7 @@ module _ (K : Tag → List ℕ → List ℕ → Type 0) (script : Tag → Option
   pub record Stands (past : Entries) (os : Objects) (ps : List Put) (clock : ℕ) : Type 0 where
     pub agree : (n : List ℕ) (o : Object) → IsIn os n o → PutAs ps n o
     pub logs : (v : ℕ) → object_at os (commit_text v) ≡ None → put_under ps (commit_text v) ≡ None
-    pub owned : (t : Tag) (start : ℕ) (q : Put) → IsTag t → put_under ps (data_text t start 0) ≡ Some q → (a : Answer) × PutIn (own t past) (data_text t start 0) q.body a
+    pub owned : (t : Tag) (start part : ℕ) (q : Put) → IsTag t → part < 2 ^ 32 → put_under ps (data_text t start part) ≡ Some q → (a : Answer) × PutIn (own t past) (data_text t start part) q.body a
     pub made : (n : List ℕ) (p : Put) → put_under ps n ≡ Some p → IsMadeIn past n p
     pub missing : (t : Tag) (v : ℕ) (p : Put) → FoundMissing (own t past) (commit_text v) → put_under ps (commit_text v) ≡ Some p → p.tag ≡ t → ⊥
     pub got : (n b : List ℕ) → GotIn past n b → InPut ps n b
@@ -121,7 +122,7 @@ module _ (K : Tag → List ℕ → List ℕ → Type 0) (script : Tag → Option
   nothing_stands = record {
     agree = λ n o h. absurd h;
     logs = λ v h. refl;
-    owned = λ t start q is h. cc;
+    owned = λ t start part q is small h. cc;
     made = λ n p h. cc;
     missing = λ t v p h k e. absurd h;
     got = λ n b h. absurd h;
@@ -152,8 +153,9 @@ module _ (K : Tag → List ℕ → List ℕ → Type 0) (script : Tag → Option
     read = k.read;
     s = k.s;
     view = k.view;
+    added = k.added;
     says = k.says;
-    knows = knows_more p.tag k.op k.start k.read k.s k.view (Sure K p.tag ps) (InPut ps) (Sure K p.tag qs) (InPut qs) v (sure_more K p.tag ps qs more) more k.knows;
+    knows = knows_more p.tag k.op k.start k.read k.s k.view k.added (Sure K p.tag ps) (InPut ps) (Sure K p.tag qs) (InPut qs) v (sure_more K p.tag ps qs more) more k.knows;
     started = given_more told_by p.tag e past _ k.started;
     listed = given_more listed_by p.tag e past _ k.listed;
     tries = k.tries;
@@ -185,7 +187,7 @@ module _ (K : Tag → List ℕ → List ℕ → Type 0) (script : Tag → Option
   unchanged past os ps clock e now at s q = record {
     agree = λ n o h. s.agree n o (q.among n o h);
     logs = λ v h. s.logs v (q.log v h);
-    owned = λ t start p is h. let o = s.owned t start p is h in (o.0, put_more t e past _ _ _ o.1);
+    owned = λ t start part p is small h. let o = s.owned t start part p is small h in (o.0, put_more t e past _ _ _ o.1);
     made = λ n p h. made_more past e n p (s.made n p h);
     missing = λ t v p h k same. elim (missing_now t e past (commit_text v) h) [ inl now ↦ not_there p (sym (q.misses v now.1 now.2) ∙ k) | inr before ↦ s.missing t v p before.1 k same ];
     got = λ n b h. elim h [ inl now ↦ q.gets n b now.0 now.1 | inr before ↦ s.got n b before ];
@@ -221,13 +223,13 @@ module _ (K : Tag → List ℕ → List ℕ → Type 0) (script : Tag → Option
   -- the one put that is new, if it is a commit
   pub new_commit : (tag : Tag) (statement : Statement) (past : Entries) (name body : List ℕ) (v : ℕ) → suc v < 2 ^ 64 → MayPut (K tag) tag statement past name body → name ≡ commit_text (suc v)
       → (k : IsCommitOf (K tag) tag statement past name body) × (k.version ≡ v)
-  new_commit tag statement past name body v small (IsFile start started is fresh) h = absurd (data_is_no_commit tag start 0 (suc v) (sym is ∙ h))
+  new_commit tag statement past name body v small (IsFile start part started least is fresh) h = absurd (data_is_no_commit tag start part (suc v) (sym is ∙ h))
   new_commit tag statement past name body v small (IsTable spec started is_table is text none) h = let e : ◌≡◌ {A = ℕ} 0 (suc v) = commits_differ 0 (suc v) (omega arith) small (sym is ∙ h) in absurd (omega arith)
   new_commit tag statement past name body v small (IsCommit k) h = (k, suc_same k.version v (commits_differ (suc k.version) (suc v) k.small small (sym k.is ∙ h)))
 
   pub new_table : (tag : Tag) (statement : Statement) (past : Entries) (name body : List ℕ) → script tag ≡ Some statement → MayPut (K tag) tag statement past name body → name ≡ commit_text 0
       → (spec : TableSpec) × (script tag ≡ Some (Table spec)) × (body ≡ text_of_columns (names_of spec.columns))
-  new_table tag statement past name body by (IsFile start started is fresh) h = absurd (data_is_no_commit tag start 0 0 (sym is ∙ h))
+  new_table tag statement past name body by (IsFile start part started least is fresh) h = absurd (data_is_no_commit tag start part 0 (sym is ∙ h))
   new_table tag statement past name body by (IsTable spec started is_table is text none) h = (spec, by ∙ ap (λ (s : Statement). Some s) is_table, text)
   new_table tag statement past name body by (IsCommit k) h = let e : ◌≡◌ {A = ℕ} (suc k.version) 0 = commits_differ (suc k.version) 0 k.small (omega arith) (sym k.is ∙ h) in absurd (omega arith)
 
@@ -250,7 +252,7 @@ module _ (K : Tag → List ℕ → List ℕ → Type 0) (script : Tag → Option
 
     -- what stands under a commit's name that it may put is not its own
     pub not_own : MayPut (K tag) tag statement (own tag past) name body → (version : ℕ) → name ≡ commit_text version → (q : Put) → put_under ps name ≡ Some q → q.tag ≡ tag → ⊥
-    not_own (IsFile start started is fresh) version at q there same = data_is_no_commit tag start 0 version (sym is ∙ at)
+    not_own (IsFile start part started least is fresh) version at q there same = data_is_no_commit tag start part version (sym is ∙ at)
     not_own (IsTable spec started is_table is text none) version at q there same =
         let m = s.made name q there in
         none name q.body m.answer (subst (λ (t : Tag). PutIn (own t past) name q.body m.answer) same m.made)
@@ -259,7 +261,7 @@ module _ (K : Tag → List ℕ → List ℕ → Type 0) (script : Tag → Option
         not_lost k.version q here (s.commits k.version q k.small here) (sym same) k
 
     pub quiet : MayPut (K tag) tag statement (own tag past) name body → (v : ℕ) (q : Put) → put_under ps (commit_text (suc v)) ≡ Some q → Committed past ps v q → tag ≡ q.tag → version_put (PutNew name body) ≡ None
-    quiet (IsFile start started is fresh) v q old there same = ap (λ (n : List ℕ). version_put (PutNew n body)) is ∙ data_put tag start body
+    quiet (IsFile start part started least is fresh) v q old there same = ap (λ (n : List ℕ). version_put (PutNew n body)) is ∙ data_put tag start part body
     quiet (IsTable spec started is_table is text none) v q old there same =
         absurd (no_later past ps v q there spec (sym (ap script same) ∙ is_statement ∙ ap (λ (s : Statement). Some s) is_table))
     quiet (IsCommit k) v q old there same = absurd (not_lost v q old there same k)
