@@ -1,5 +1,5 @@
 -- What a statement's operation does to the files of a table, and what is known of it before its commit is put.
-use Rattle.std.specs.Prelude.{◌≡◌, ℕ, false, not, List, [], ◌∷◌, Option, None, Some, if◌then◌else◌}
+use Rattle.std.specs.Prelude.{◌≡◌, ℕ, not, List, [], Option, None, Some, if◌then◌else◌}
 use Rattle.edge_api.specs.declared.call.Tag.{Tag}
 use Rattle.table_rules.specs.Names.{data_text}
 use Rattle.snapshot_replay.specs.Table.{Commit as LogCommit}
@@ -11,18 +11,18 @@ use Rattle.table_changes.specs.Operations.{Operation, taken_files, reads_of}
 use Rattle.table_laws.specs.Commits.{file_of, info_of, changes_of}
 use Rattle.table_laws.specs.Operations.{Scope, passes, may}
 
--- the data file of a statement that started then
-abbrev pub new_file : Tag → ℕ → File
-new_file tag start = file_of (record { path = data_text tag start 0; stats = [] })
+-- a data file of a statement that started then, by its part's number
+abbrev pub new_file : Tag → ℕ → ℕ → File
+new_file tag start part = file_of (record { path = data_text tag start part; stats = [] })
 
--- the commit of a statement that started then, by the files of the version that it read and the rows of those that it got
-abbrev pub effect_of : Tag → ℕ → Operation Scope → (File → List Row) → List File → Commit
-effect_of tag start op view fs = record {
+-- the commit of a statement, by the files of the version that it read, the rows of those that it got and its new files
+abbrev pub effect_of : Operation Scope → (File → List Row) → List File → List File → Commit
+effect_of op view fs added = record {
   info = Some (info_of (is_literal op.kind));
   protocol = None;
   meta = None;
   txns = [];
-  lines = lines_of 0 (not op.moves) (taken_files view op fs) (new_file tag start ∷ []);
+  lines = lines_of 0 (not op.moves) (taken_files view op fs) added;
 }
 
 -- the text of a version's commit says this

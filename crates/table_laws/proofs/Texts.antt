@@ -10,7 +10,7 @@ use Rattle.snapshot_replay.specs.Table.{Commit, table_commit, append_commit}
 use Rattle.statement_calls.specs.Texts.{read_commit}
 use Rattle.table_changes.specs.Rows.{Row}
 use Rattle.table_changes.specs.Table.{File, FileLine, MetaData, paths_of, lines_of}
-use Rattle.table_changes.specs.Conflicts.{DeleteDelete, is_set, clash_or, first_removed, first_clash}
+use Rattle.table_changes.specs.Conflicts.{DeleteDelete, clash_or, first_removed, first_clash}
 use Rattle.table_changes.specs.Operations.{reads_of}
 use Rattle.table_changes.specs.Statements.{insert_of}
 use Rattle.table_laws.specs.Commits.{line_of, info_of, protocol_of, meta_of}
@@ -27,11 +27,11 @@ read_later : (v : ℕ) (text : List ℕ) → read_commit (suc v) text ≡ option
 read_later v text = ap (λ (b : Bool). if b then option_map table_commit (columns_of_text text) else option_map append_commit (path_of_text text)) (later v)
 
 -- the text of an append is read as the path of its file
-pub append_says : (tag : Tag) (start : ℕ) (rows : List Row) (view : File → List Row) (fs : List File) (v : ℕ) → Says (suc v) (text_of_add (data_text tag start 0)) (effect_of tag start (insert_of NoRow rows) view fs)
+pub append_says : (tag : Tag) (start : ℕ) (rows : List Row) (view : File → List Row) (fs : List File) (v : ℕ) → Says (suc v) (text_of_add (data_text tag start 0)) (effect_of (insert_of NoRow rows) view fs (new_file tag start 0 ∷ []))
 append_says tag start rows view fs v = (
   append_commit (data_text tag start 0),
   read_later v (text_of_add (data_text tag start 0)) ∙ ap (option_map append_commit) (path_reads_back (data_text tag start 0) (data_is_path tag start)),
-  ap (λ (gone : List File). record { info = Some (info_of true); protocol = None; meta = None; txns = []; lines = lines_of 0 true gone (new_file tag start ∷ []) }) (sym (none_picked fs)),
+  ap (λ (gone : List File). record { info = Some (info_of true); protocol = None; meta = None; txns = []; lines = lines_of 0 true gone (new_file tag start 0 ∷ []) }) (sym (none_picked fs)),
 )
 
 -- it has no columns
