@@ -23,6 +23,7 @@ pub mod Effects
 pub mod Tries
 pub mod Readings
 pub mod Parts
+pub mod Once
 pub mod Serial
 pub mod Ends
 pub mod Folded

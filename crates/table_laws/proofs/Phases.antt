@@ -60,7 +60,7 @@ pub no_commit_put : (e : JournalEntry) (call : Call) → e.call ≡ call → ((n
 no_commit_put e call is apart v b put = apart (commit_text v) b (sym is ∙ put)
 
 -- a lost put stays lost
-still_lost : (e : JournalEntry) (past : Entries) (n b : List ℕ) (a : Answer) → IsLost past n b a → IsLost (e ∷ past) n b a
+pub still_lost : (e : JournalEntry) (past : Entries) (n b : List ℕ) (a : Answer) → IsLost past n b a → IsLost (e ∷ past) n b a
 still_lost e past n b a (inl was_taken) = inl was_taken
 still_lost e past n b a (inr other) = inr (other.0, inr other.1, other.2)
 

@@ -30,8 +30,7 @@ use Rattle.table_changes.specs.Table.{File}
 use Rattle.table_changes.specs.Operations.{Operation}
 use Rattle.table_laws.specs.Commits.{files_in, schema_in}
 use Rattle.table_laws.specs.Operations.{Scope, operation_of}
-use Rattle.table_laws.proofs.CommitEffects as effects
-use Rattle.table_laws.proofs.CommitEffects.{Says}
+use Rattle.table_laws.proofs.CommitEffects.{plan_of, Writes}
 use Rattle.table_laws.proofs.Sound.{makes_none}
 use Rattle.table_laws.proofs.Effects.{loaded_columns}
 use Rattle.table_laws.specs.Views.{PutOnce}
@@ -82,7 +81,7 @@ module _ (K : Tag → List ℕ → List ℕ → Type 0) (script : Tag → Option
     pub read : ℕ
     pub view : File → List Row
     pub added : List File
-    pub says : Says (suc v) p.body (effects.effect_of op view (files_in s) added)
+    pub writes : Writes (suc v) p.body (plan_of p.tag start read op view (files_in s) added)
     pub knows : Knows p.tag op start read s view added (Sure K p.tag ps) (InPut ps) v
     pub started : first_past told_by (own p.tag past) ≡ Some start
     pub listed : first_past listed_by (own p.tag past) ≡ Some read
@@ -154,7 +153,7 @@ module _ (K : Tag → List ℕ → List ℕ → Type 0) (script : Tag → Option
     s = k.s;
     view = k.view;
     added = k.added;
-    says = k.says;
+    writes = k.writes;
     knows = knows_more p.tag k.op k.start k.read k.s k.view k.added (Sure K p.tag ps) (InPut ps) (Sure K p.tag qs) (InPut qs) v (sure_more K p.tag ps qs more) more k.knows;
     started = given_more told_by p.tag e past _ k.started;
     listed = given_more listed_by p.tag e past _ k.listed;
