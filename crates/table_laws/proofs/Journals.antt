@@ -1,7 +1,7 @@
 -- From entry to entry of a journal: each lawful entry keeps what stands (call_step), so all of it stands at each moment (stands_at).
 -- Ends, Moments and Views cite stands_at.
 -- No other file matches on a call's answer.
-use Rattle.std.proofs.Common.{◌≡◌, ℕ, suc, ◌≤◌, ◌<◌, ◌^◌, Bool, true, false, List, [], ◌∷◌, ◌++◌, refl, sym, ◌∙◌, ap, subst}
+use Rattle.std.proofs.Common.{◌≡◌, inl, inr, ℕ, suc, ◌≤◌, ◌<◌, ◌^◌, Bool, true, false, List, [], ◌∷◌, ◌++◌, refl, sym, ◌∙◌, ap, subst}
 use Rattle.std.proofs.lemmas.List.{append-nil, append_assoc}
 use Rattle.std.specs.Prelude.{Option, Some, None}
 use Rattle.edge_api.specs.declared.call.Tag.{Tag}
@@ -12,7 +12,7 @@ use Rattle.edge_api.specs.declared.call.Answer.TheVariants.{Fault, Body, Missing
 use Rattle.edge_api.specs.declared.call.JournalEntry.{JournalEntry}
 use Rattle.edge_api.specs.declared.call.Listed.{Listed}
 use Rattle.edge_api.specs.declared.call.Object.{Object}
-use Rattle.edge_api.specs.Journal.{Objects, Moment, IsLegal, Answers, answer_of, after_moment, objects_after, after_answer, effect_of, entries_of, object_at, listing, read_answer, put_new_answer, put_new_objects}
+use Rattle.edge_api.specs.Journal.{Objects, Moment, IsLegal, Answers, answer_of, after_moment, objects_after, after_answer, effect_of, entries_of, object_at, without_object, listing, read_answer, put_new_answer, put_new_objects}
 use Rattle.edge_api.specs.Memory.{last_clock}
 use Rattle.op_types.specs.declared.statement.Statement.{Statement}
 use Rattle.op_types.specs.declared.reply.Reply.{Reply}
@@ -25,7 +25,7 @@ use Rattle.table_laws.specs.Views.{IsNewest}
 use Rattle.table_laws.specs.History.{Put, put_under, body_of, put_if_free, puts_of, if_done, puts_at, history}
 use Rattle.table_laws.specs.Runs.{listed_by, version_put}
 use Rattle.table_laws.proofs.Lawful.{IsListed, MayPut, LawfulBy}
-use Rattle.table_laws.proofs.Members.{is_in, listed_in}
+use Rattle.table_laws.proofs.Members.{IsIn, is_in, listed_in, in_without, none_without}
 use Rattle.table_laws.proofs.Listings.{given_by, listing_is_newest}
 use Rattle.table_laws.proofs.Shown.{backwards, InPut, PutAt, same_if_done, same_after}
 use Rattle.table_laws.proofs.Standing.{Keeps, keeps_rest, lawful_next, Committed, Stands, Quiet, unchanged, quiet}
@@ -40,15 +40,15 @@ module _ (K : Tag → List ℕ → List ℕ → Type 0) (script : Tag → Option
         subst (λ (o : Objects). Stands K script replies tags (e ∷ past) o (ps ++ new) clock) (sym same)
         (subst (λ (q : List Put). Stands K script replies tags (e ∷ past) os q clock) (sym (ap (λ (q : List Put). ps ++ q) none ∙ append-nil ps)) here)
 
-    -- a call that reads no clock and lists no names
-    quiet_call : (e : JournalEntry) (clock : ℕ) → before ≤ clock → ((n b : List ℕ) → e.call ≡ Get n → e.answer ≡ Body b → InPut ps n b)
+    -- a call that reads no clock and lists no names, after which the objects are these
+    quiet_call : (e : JournalEntry) (now : Objects) (clock : ℕ) → before ≤ clock → ((n : List ℕ) (o : Object) → IsIn now n o → IsIn os n o) → ((v : ℕ) → object_at now (commit_text v) ≡ None → object_at os (commit_text v) ≡ None) → ((n b : List ℕ) → e.call ≡ Get n → e.answer ≡ Body b → InPut ps n b)
         → ((v : ℕ) → e.call ≡ Get (commit_text v) → e.answer ≡ Missing → put_under ps (commit_text v) ≡ None) → ((n b : List ℕ) → e.call ≡ PutNew n b → e.answer ≡ Stored → ⊥)
         → ((v : ℕ) (p : Put) → put_under ps (commit_text (suc v)) ≡ Some p → Committed K script replies tags past ps v p → e.tag ≡ p.tag → version_put e.call ≡ None)
-        → (e.call ≡ Now → ⊥) → ((prefix : List ℕ) → e.call ≡ ListNames prefix → ⊥) → Quiet K script replies tags past os ps before e os clock
-    quiet_call e clock le gets misses stores silent no_now no_list = record {
+        → (e.call ≡ Now → ⊥) → ((prefix : List ℕ) → e.call ≡ ListNames prefix → ⊥) → Quiet K script replies tags past os ps before e now clock
+    quiet_call e now clock le among log gets misses stores silent no_now no_list = record {
       le = le;
-      among = λ n o h. h;
-      log = λ v h. h;
+      among = among;
+      log = log;
       gets = gets;
       misses = misses;
       stores = stores;
@@ -57,6 +57,15 @@ module _ (K : Tag → List ℕ → List ℕ → Type 0) (script : Tag → Option
       names = λ prefix l h k n at there. absurd (no_list prefix h);
       newest = λ r h. absurd (no_list log_prefix (given_by e.call e.answer r h).0);
     }
+
+    -- an object that is no commit may go
+    pub may_go : (tag : Tag) (name : List ℕ) (a : Answer) (clock : ℕ) → before ≤ clock → ((v : ℕ) → name ≡ commit_text v → ⊥)
+        → Stands K script replies tags (record { tag = tag; call = Delete name; answer = a } ∷ past) (without_object os name) ps clock
+    may_go tag name a clock le no_commit =
+        let e : JournalEntry = record { tag = tag; call = Delete name; answer = a } in
+        unchanged K script replies tags past os ps before e (without_object os name) clock s
+        (quiet_call e (without_object os name) clock le (in_without os name) (λ v h. elim (none_without os name (commit_text v) h) [ inl before ↦ before | inr same ↦ absurd (no_commit v same) ])
+        (λ n b h k. cc) (λ v h k. cc) (λ n b h k. cc) (λ v p h k is. refl) (λ h. cc) (λ prefix h. cc))
 
     time_is : (a : Answer) (time clock : ℕ) → Answers a (Time clock) → a ≡ Time time → time ≡ clock
     time_is Fault time clock right is = cc
@@ -124,7 +133,7 @@ module _ (K : Tag → List ℕ → List ℕ → Type 0) (script : Tag → Option
 
       put_quiet : (a : Answer) → (a ≡ Stored → ⊥) → Quiet K script replies tags past os ps before (entry_of a) os clock
       put_quiet a apart =
-          quiet_call (entry_of a) clock le (λ n b h k. cc) (λ v h k. cc) (λ n b h k. apart k) (quiet K script replies tags past os ps before s tag statement is_statement name body may) (λ h. cc) (λ prefix h. cc)
+          quiet_call (entry_of a) os clock le (λ n o h. h) (λ v h. h) (λ n b h k. cc) (λ v h k. cc) (λ n b h k. apart k) (quiet K script replies tags past os ps before s tag statement is_statement name body may) (λ h. cc) (λ prefix h. cc)
 
       at_free : (a : Answer) (u : Bool) → object_at os name ≡ None → Answers a Stored → Next a u None
       at_free Stored u free right = added K script replies tags past os ps before s tag name body Stored clock le statement is_statement may free (λ h. cc)
@@ -173,7 +182,7 @@ module _ (K : Tag → List ℕ → List ℕ → Type 0) (script : Tag → Option
     call_step tag (Get name) a clock u statement le is_statement lawful right =
         let e : JournalEntry = record { tag = tag; call = Get name; answer = a } in
         idle e clock (after_answer a u os os) (if_done a u []) (same_after a u os) (same_if_done a u)
-        (quiet_call e clock le (get_shows name a right) (get_misses name a right) (λ n b h k. cc) (λ v p h k is. refl) (λ h. cc) (λ prefix h. cc))
+        (quiet_call e os clock le (λ n o h. h) (λ v h. h) (get_shows name a right) (get_misses name a right) (λ n b h k. cc) (λ v p h k is. refl) (λ h. cc) (λ prefix h. cc))
     call_step tag (PutNew name body) a clock u statement le is_statement lawful right = at_either tag name body clock le statement is_statement lawful a u (object_at os name) refl right
     call_step tag (Replace name body) a clock u statement le is_statement lawful right = absurd lawful
     call_step tag (ListNames prefix) a clock u statement le is_statement lawful right =
@@ -208,7 +217,7 @@ module _ (K : Tag → List ℕ → List ℕ → Type 0) (script : Tag → Option
     call_step tag (Wait time) a clock u statement le is_statement lawful right =
         let e : JournalEntry = record { tag = tag; call = Wait time; answer = a } in
         idle e clock (after_answer a u os os) (if_done a u []) (same_after a u os) (same_if_done a u)
-        (quiet_call e clock le (λ n b h k. cc) (λ v h k. cc) (λ n b h k. cc) (λ v p h k is. refl) (λ h. cc) (λ prefix h. cc))
+        (quiet_call e os clock le (λ n o h. h) (λ v h. h) (λ n b h k. cc) (λ v h k. cc) (λ n b h k. cc) (λ v p h k is. refl) (λ h. cc) (λ prefix h. cc))
 
   -- what stands after some moments, with the rest still to come
   pub record StandsAt (first : Objects) (puts : List Put) (from : Entries) (begun : ℕ) (before rest : List Moment) : Type 0 where
