@@ -27,7 +27,8 @@ use Rattle.table_laws.proofs.Standing.{Keeps, KeepsPart, nothing_stands}
 use Rattle.table_laws.proofs.Journals.{StandsAt, stands_at}
 use Rattle.table_laws.proofs.Readings.{empty_first}
 use Rattle.table_laws.proofs.Once.{makes_table, once}
-use Rattle.table_laws.proofs.Serial.{commits_read, files_read, step, lands, has_committed, has_read}
+use Rattle.table_laws.proofs.Serial.{commits_read, files_read, step, lands, has_read}
+use Rattle.table_laws.proofs.Owners.{has_committed}
 use Rattle.table_laws.proofs.Folded.{rows_folded}
 
 module _ (limit : ℕ) (script : Tag → Option Statement) (outcomes : Tag → Option Finish) (moments : List Moment) (legal : IsLegal [] 0 moments) (run : IsRun limit script outcomes (entries_of moments)) where

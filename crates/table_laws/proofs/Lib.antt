@@ -25,6 +25,7 @@ pub mod Readings
 pub mod Parts
 pub mod Once
 pub mod Serial
+pub mod Owners
 pub mod Ends
 pub mod Folded
 pub mod Refused

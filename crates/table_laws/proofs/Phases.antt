@@ -18,6 +18,7 @@ use Rattle.op_types.specs.declared.refusal.Clash.{Clash}
 use Rattle.op_types.specs.declared.reply.Reply.{Reply}
 use Rattle.op_types.specs.declared.reply.Reply.TheVariants.{Refused}
 use Rattle.table_rules.specs.Names.{commit_text}
+use Rattle.table_rules.proofs.Names.{commits_differ}
 use Rattle.call_phases.specs.Phases.{Entries, OnGot, AtNow, AtList, AtGet, AtPutNew}
 use Rattle.call_phases.specs.Called.{called_get}
 use Rattle.call_phases.specs.Gets.{OnReading, AtGets}
@@ -38,7 +39,7 @@ use Rattle.statement_calls.specs.Judging.{CommitPlan, Bodies, Judges, verdict_of
 use Rattle.statement_calls.specs.Outcome.{IsOpen, Ends, Replies, refusal_of_attempt}
 use Rattle.table_laws.specs.Runs.{reply_in, or_first, listed_by, told_by}
 use Rattle.table_laws.specs.Refused.{IsUnknown}
-use Rattle.table_laws.proofs.Lawful.{Known, NoPut, IsLost, AllLost, AllInDoubt, ClaimsNothing, first_past, HasStart, ClaimOf, Claim, MayPut, LawfulBy, AllLawful}
+use Rattle.table_laws.proofs.Lawful.{Known, NoPut, IsLost, AllLost, AllLostBelow, AllInDoubt, ClaimsNothing, first_past, HasStart, ClaimOf, Claim, MayPut, LawfulBy, AllLawful}
 
 pub get_no_put : (name n b : List ℕ) → Get name ≡ PutNew n b → ⊥
 get_no_put name n b h = cc
@@ -60,12 +61,28 @@ pub no_commit_put : (e : JournalEntry) (call : Call) → e.call ≡ call → ((n
 no_commit_put e call is apart v b put = apart (commit_text v) b (sym is ∙ put)
 
 -- a lost put stays lost
-pub still_lost : (e : JournalEntry) (past : Entries) (n b : List ℕ) (a : Answer) → IsLost past n b a → IsLost (e ∷ past) n b a
+still_lost : (e : JournalEntry) (past : Entries) (n b : List ℕ) (a : Answer) → IsLost past n b a → IsLost (e ∷ past) n b a
 still_lost e past n b a (inl was_taken) = inl was_taken
 still_lost e past n b a (inr other) = inr (other.0, inr other.1, other.2)
 
 pub lost_other : (e : JournalEntry) (past : Entries) → ((v : ℕ) (b : List ℕ) → e.call ≡ PutNew (commit_text v) b → ⊥) → AllLost past → AllLost (e ∷ past)
 lost_other e past apart lost v b a h = elim h [ inl now ↦ absurd (apart v b now.0) | inr before ↦ still_lost e past (commit_text v) b a (lost v b a before) ]
+
+-- all but the newest put are lost
+pub lost_below : (e : JournalEntry) (past : Entries) (version : ℕ) (body : List ℕ) (landed : ℕ) → landed ≡ version → version < 2 ^ 64 → e.call ≡ PutNew (commit_text version) body → AllLost past → AllLostBelow (e ∷ past) landed
+lost_below e past version body landed is small put lost v b a lt h = elim h [
+  | inl now ↦
+      let names = same_put _ _ _ _ (sym put ∙ now.0) in
+      let same = commits_differ version v small (omega (arith, is, small, lt)) names.0 in
+      absurd (omega (arith, is, lt, same))
+  | inr before ↦ still_lost e past (commit_text v) b a (lost v b a before)
+]
+
+pub still_below : (f : JournalEntry) (past : Entries) (name : List ℕ) → f.call ≡ Get name → (version : ℕ) → AllLostBelow past version → AllLostBelow (f ∷ past) version
+still_below f past name is version lost v b a lt h = elim h [
+  | inl now ↦ absurd (get_no_put name (commit_text v) b (sym is ∙ now.0))
+  | inr before ↦ still_lost f past (commit_text v) b a (lost v b a lt before)
+]
 
 pub lost_taken : (e : JournalEntry) (past : Entries) → e.answer ≡ Taken → AllLost past → AllLost (e ∷ past)
 lost_taken e past was_taken lost v b a h = elim h [ inl now ↦ inl (sym now.1 ∙ was_taken) | inr before ↦ still_lost e past (commit_text v) b a (lost v b a before) ]

@@ -46,14 +46,14 @@ module _ (K : Tag → List ℕ → List ℕ → Type 0) (script : Tag → Option
   sure t n b (inl before) = known t n b before
   sure t n b (inr put) = put
 
-  shown : (t : Tag) (n b : List ℕ) → Known (K t) (own t past) n b → InPut ps n b
+  pub shown : (t : Tag) (n b : List ℕ) → Known (K t) (own t past) n b → InPut ps n b
   shown t n b (inl before) = known t n b before
   shown t n b (inr got) = s.got n b (own_got t past n b got)
 
-  knows : (v : ℕ) (p : Put) (k : Committed K script replies tags past ps v p) → Knows p.tag k.op k.start k.read k.s k.view k.added (InPut ps) (InPut ps) v
+  pub knows : (v : ℕ) (p : Put) (k : Committed K script replies tags past ps v p) → Knows p.tag k.op k.start k.read k.s k.view k.added (InPut ps) (InPut ps) v
   knows v p k = knows_more p.tag k.op k.start k.read k.s k.view k.added (Sure K p.tag ps) (InPut ps) (InPut ps) (InPut ps) v (sure p.tag) (λ n b h. h) k.knows
 
-  one_below : (n : ℕ) → suc n < 2 ^ 64 → IsCommitted ps (suc n) → IsCommitted ps n
+  pub one_below : (n : ℕ) → suc n < 2 ^ 64 → IsCommitted ps (suc n) → IsCommitted ps n
   one_below n small is =
       let two = some_put (put_under ps (commit_text (suc n))) is in
       let k = s.commits n two.0 small two.1 in
@@ -115,18 +115,18 @@ module _ (K : Tag → List ℕ → List ℕ → Type 0) (script : Tag → Option
     right = tags p.tag k.statement k.is_statement
 
   -- the text of version v + 1's commit says its plan
-  abbrev SaysPlan : ℕ → Type 0
+  abbrev pub SaysPlan : ℕ → Type 0
   SaysPlan v = (p : Put) (small : suc v < 2 ^ 64) (is : put_under ps (commit_text (suc v)) ≡ Some p) → (let k = s.commits v p small is in Says (suc v) p.body (effect_of k.op k.view (files_in k.s) k.added))
 
-  abbrev AllSay : ℕ → Type 0
+  abbrev pub AllSay : ℕ → Type 0
   AllSay n = (w : ℕ) → w < n → SaysPlan w
 
   -- a statement has committed none of the versions 1 to n
-  abbrev HasNone : ℕ → Tag → Type 0
+  abbrev pub HasNone : ℕ → Tag → Type 0
   HasNone n tag = (w : ℕ) (q : Put) → w < n → put_under ps (commit_text (suc w)) ≡ Some q → q.tag ≡ tag → ⊥
 
   -- a file isn't there before its statement's commit, over commits that say their plans
-  fresh : (n : ℕ) → AllSay n → n < 2 ^ 64 → IsCommitted ps n → (tag : Tag) (start part : ℕ) → IsTag tag → part < 2 ^ 32 → HasNone n tag → times (data_text tag start part) (live_at ps n) ≡ 0
+  pub fresh : (n : ℕ) → AllSay n → n < 2 ^ 64 → IsCommitted ps n → (tag : Tag) (start part : ℕ) → IsTag tag → part < 2 ^ 32 → HasNone n tag → times (data_text tag start part) (live_at ps n) ≡ 0
   fresh zero all small is tag start part right_tag least none = subst (λ (ls : List FileLine). times (data_text tag start part) (reconciled [] ls) ≡ 0) (sym (empty_first ps)) refl
   fresh (suc n) all small is tag start part right_tag least none =
       let two = some_put (put_under ps (commit_text (suc n))) is in
@@ -150,7 +150,7 @@ module _ (K : Tag → List ℕ → List ℕ → Type 0) (script : Tag → Option
       (parts_whole (InPut ps) two.0.tag k.start (right n two.0 small two.1) 0 k.added (knows n two.0 k).new (knows n two.0 k).parts))
 
   -- so a plan over them is whole, if its statement has committed none of them: what it takes out was live, and what it adds wasn't
-  plan_whole : (v : ℕ) → AllSay v → v < 2 ^ 64 → IsCommitted ps v → (tag : Tag) → IsTag tag → (start read : ℕ) (op : Operation Scope) (loaded : Snapshot) (view : File → List Row) (added : List File)
+  pub plan_whole : (v : ℕ) → AllSay v → v < 2 ^ 64 → IsCommitted ps v → (tag : Tag) → IsTag tag → (start read : ℕ) (op : Operation Scope) (loaded : Snapshot) (view : File → List Row) (added : List File)
       → Knows tag op start read loaded view added (InPut ps) (InPut ps) v → HasNone v tag → IsWhole (plan_of tag start read op view (files_in loaded) added)
   plan_whole v all small is tag whose start read op loaded view added k none =
       let le = k.below in
@@ -178,11 +178,11 @@ module _ (K : Tag → List ℕ → List ℕ → Type 0) (script : Tag → Option
   here_or : (n v : ℕ) → v < suc n → (n ≡ v) ⊎ (v < n)
   here_or n v lt = grind arith
 
-  all_say : (n : ℕ) → AllSay n
+  pub all_say : (n : ℕ) → AllSay n
   all_say zero v lt = absurd (omega (arith, lt))
   all_say (suc n) v lt = elim (here_or n v lt) [ inl same ↦ subst SaysPlan same (says_plan n (all_say n)) | inr less ↦ all_say n v less ]
 
-  reads : (v : ℕ) → SaysPlan v
+  pub reads : (v : ℕ) → SaysPlan v
   reads v = all_say (suc v) v (omega arith)
 
   -- what the commit says
@@ -351,57 +351,6 @@ module _ (K : Tag → List ℕ → List ℕ → Type 0) (script : Tag → Option
           puts = put_in_order p.tag past journal k.read k.tries is_past k.puts ∙ ap (λ (n : ℕ). versions_from (k.read + 1) n) count;
           lost = won_at v p small is k;
         }
-
-    -- a commit whose text names a statement's file is this statement's
-    same_owner : (t : Tag) (st : Statement) → script t ≡ Some st → (w : ℕ) (q : Put) → suc w < 2 ^ 64 → put_under ps (commit_text (suc w)) ≡ Some q
-        → (start : ℕ) (op : Operation Scope) (view : File → List Row) (fs added : List File) → IsOwn t start added → Says (suc w) q.body (effect_of op view fs added) → q.tag ≡ t
-    same_owner t st is_st w q small is start op view fs added own says =
-        let k = s.commits w q small is in
-        let read = reads w q small is in
-        let theirs = effect_of k.op k.view (files_in k.s) k.added in
-        let mine = effect_of op view fs added in
-        let same : theirs ≡ mine = sym read.2 ∙ ap changes_of (same_commit read.0 says.0 (sym read.1 ∙ says.1)) ∙ says.2 in
-        let first : first_path k.added ≡ Some (data_text t start own.part) =
-        sym (added_is 0 (not k.op.moves) (taken_files k.view k.op (files_in k.s)) k.added) ∙ ap (λ (x : Commit). first_added x.lines) same
-        ∙ added_is 0 (not op.moves) (taken_files view op fs) added ∙ ap first_path own.is in
-        parts_owner (InPut ps) q.tag k.start (tags q.tag k.statement k.is_statement) 0 k.added (knows w q k).new (knows w q k).parts t start own.part (tags t st is_st) own.small first
-
-    -- what the reply of a commit claims
-    pub has_committed : (t : Tag) (st : Statement) → script t ≡ Some st → (version read attempts : ℕ) → ClaimsCommit (K t) t (own t past) version read attempts → HasCommitted journal ps t version read attempts
-    has_committed t st is_st version read attempts c = record { is_read = sym (given_is listed_by t past journal is_past) ∙ c.listed; counted = c.sum; above = c.above; by = found.0; is_by = found.1; is_tag = found.2 }
-      where
-        -- it has committed none of the versions below
-        none_below : HasNone c.before t
-        none_below w q lt there same =
-            let m = s.made (commit_text (suc w)) q there in
-            let next = c.next in
-            let made = subst (λ (u : Tag). PutIn (own u past) (commit_text (suc w)) q.body m.answer) same m.made in
-            elim (c.lost (suc w) q.body m.answer (omega (arith, lt, next)) made) [
-              | inl was_taken ↦ m.landed was_taken
-              | inr other ↦ other.2 (sym (some_same q.body other.0 (sym (ap body_of there) ∙ s.got (commit_text (suc w)) other.0 (own_got t past _ _ other.1))))
-            ]
-
-        -- so its plan is whole, and the text says it
-        got_back : (q : Put) → put_under ps (commit_text version) ≡ Some q → q.body ≡ c.body → q.tag ≡ t
-        got_back q is body =
-            let small : suc c.before < 2 ^ 64 = subst (λ (n : ℕ). n < 2 ^ 64) c.next c.small in
-            let there : put_under ps (commit_text (suc c.before)) ≡ Some q = ap (λ (n : ℕ). put_under ps (commit_text n)) (sym c.next) ∙ is in
-            let whole = plan_whole c.before (all_say c.before) (omega (arith, small)) (one_below c.before small (is_some (put_under ps (commit_text (suc c.before))) q there)) t (tags t st is_st) c.start read c.op c.s c.view c.added
-            (knows_more t c.op c.start read c.s c.view c.added (Known (K t) (own t past)) (StoredIn (own t past)) (InPut ps) (InPut ps) c.before (shown t)
-            (λ n b h. let kept = s.stored t n b h in ap body_of kept.is ∙ ap (λ (d : List ℕ). Some d) kept.body) c.knows) none_below in
-            let mine = effect_of c.op c.view (files_in c.s) c.added in
-            let written : Says (suc c.before) c.body mine = (subst (λ (n : ℕ). Writes n c.body (plan_of t c.start read c.op c.view (files_in c.s) c.added)) c.next c.writes).back whole in
-            same_owner t st is_st c.before q small there c.start c.op c.view (files_in c.s) c.added c.own (subst (λ (b : List ℕ). Says (suc c.before) b mine) (sym body) written)
-
-        by_there : StoredIn (own t past) (commit_text version) c.body ⊎ GotIn (own t past) (commit_text version) c.body → (q : Put) × (put_under ps (commit_text version) ≡ Some q) × (q.tag ≡ t)
-        by_there (inl kept) = let b = s.stored t (commit_text version) c.body kept in (b.put, b.is, b.tag)
-        by_there (inr got) =
-            let put = s.got (commit_text version) c.body (own_got t past (commit_text version) c.body got) in
-            let q = put_of_body (put_under ps (commit_text version)) c.body put in
-            (q.0, q.1, got_back q.0 q.1 (some_same q.0.body c.body (sym (ap body_of q.1) ∙ put)))
-
-        found : (q : Put) × (put_under ps (commit_text version) ≡ Some q) × (q.tag ≡ t)
-        found = by_there c.there
 
     -- what the reply of rows claims
     pub has_read : (t : Tag) (version : ℕ) (given : List Row) (read live_files : ℕ) → ClaimsRows (K t) (own t past) version given read live_files → HasRead journal ps t version given read live_files

@@ -19,7 +19,7 @@ use Rattle.op_types.specs.declared.refusal.Refusal.TheVariants as refusal
 use Rattle.op_types.specs.fault.Feature.TheVariants.{Versions}
 use Rattle.op_types.specs.declared.reply.Reply.TheVariants.{Created, Rows}
 use Rattle.table_rules.specs.Names.{log_prefix, commit_text, data_text}
-use Rattle.table_rules.proofs.Names.{commits_differ, data_is_no_commit}
+use Rattle.table_rules.proofs.Names.{data_is_no_commit}
 use Rattle.line_texts.specs.Texts.{text_of_columns, text_of_add, text_of_rows, rows_of_text}
 use Rattle.snapshot_replay.specs.Table.{Commit, Snapshot, paths_of}
 use Rattle.call_phases.specs.Phases.{Entries}
@@ -46,9 +46,9 @@ use Rattle.table_laws.proofs.Sound.{inserts_rows}
 use Rattle.table_laws.proofs.Effects.{loaded_columns}
 use Rattle.table_laws.specs.Runs.{reply_in, or_first, listed_by, told_by, versions_put}
 use Rattle.table_laws.proofs.Sessions.{GotIn, StoredIn, LoadedTo, KnownKept}
-use Rattle.table_laws.proofs.Lawful.{Known, NoPut, AllLost, AllLostBelow, first_past, AllGot, AllScanned, Cleared, Knows, versions_down, AllWon, IsOwn, IsFile, IsTable, IsCommit, AllLawful}
+use Rattle.table_laws.proofs.Lawful.{Known, NoPut, AllLost, first_past, AllGot, AllScanned, Cleared, Knows, versions_down, AllWon, IsOwn, IsFile, IsTable, IsCommit, AllLawful}
 use Rattle.table_laws.proofs.Known.{loaded_more, knows_more, scanned_more, scanned_push}
-use Rattle.table_laws.proofs.Phases.{get_no_put, still_lost, same_put, now_no_put, list_no_put, none_put, no_commit_put, lost_other, lost_to, given_more, known_more, Fresh, fresh_get, none_lost, replied, ended_lost, at_now, at_list, at_gets, at_put_new, at_attempt}
+use Rattle.table_laws.proofs.Phases.{lost_below, still_below, same_put, now_no_put, list_no_put, none_put, no_commit_put, lost_other, lost_to, given_more, known_more, Fresh, fresh_get, none_lost, replied, ended_lost, at_now, at_list, at_gets, at_put_new, at_attempt}
 use Rattle.table_laws.proofs.Loads.{Loading, loading_more, loading_on, all_loaded, base_known}
 use Rattle.table_laws.proofs.Texts.{append_writes, append_clears}
 use Rattle.table_laws.proofs.Versions.{data_put, other_put, one_put, no_versions}
@@ -63,22 +63,6 @@ one_won e f past read v body got answer won k from to = by (nat_lt k v) refl
     by : (b : Bool) → nat_lt k v ≡ b → (text : List ℕ) × GotIn (f ∷ e ∷ past) (commit_text (suc k)) text
     by true less = let w = won k from (grind (arith, nat_tests)) in (w.0, inr (inr w.1))
     by false more = let same : v ≡ k = grind (arith, nat_tests) in (body, inl (got ∙ ap (λ (n : ℕ). Get (commit_text (suc n))) same, answer))
-
--- all but the newest put are lost
-lost_below : (e : JournalEntry) (past : Entries) (version : ℕ) (body : List ℕ) (landed : ℕ) → landed ≡ version → version < 2 ^ 64 → e.call ≡ PutNew (commit_text version) body → AllLost past → AllLostBelow (e ∷ past) landed
-lost_below e past version body landed is small put lost v b a lt h = elim h [
-  | inl now ↦
-      let names = same_put _ _ _ _ (sym put ∙ now.0) in
-      let same = commits_differ version v small (omega (arith, is, small, lt)) names.0 in
-      absurd (omega (arith, is, lt, same))
-  | inr before ↦ still_lost e past (commit_text v) b a (lost v b a before)
-]
-
-still_below : (f : JournalEntry) (past : Entries) (name : List ℕ) → f.call ≡ Get name → (version : ℕ) → AllLostBelow past version → AllLostBelow (f ∷ past) version
-still_below f past name is version lost v b a lt h = elim h [
-  | inl now ↦ absurd (get_no_put name (commit_text v) b (sym is ∙ now.0))
-  | inr before ↦ still_lost f past (commit_text v) b a (lost v b a lt before)
-]
 
 -- what a statement knows before an attempt, after so many lost ones
 pub record Attempts (K : List ℕ → List ℕ → Type 0) (tag : Tag) (op : Operation Scope) (start read : ℕ) (s : Snapshot) (view : File → List Row) (added : List File) (lost : ℕ) (past : Entries) : Type 0 where
