@@ -157,6 +157,7 @@ module _ (K : Tag → List ℕ → List ℕ → Type 0) (script : Tag → Option
           s = k.s;
           view = k.view;
           added = k.added;
+          small = let version = two.1 in let most = k.small in omega arith;
           writes = subst (λ (w : ℕ). Writes (suc w) body (plan_of tag k.start k.read k.op k.view (files_in k.s) k.added)) two.1 k.writes;
           knows = subst (λ (w : ℕ). Knows tag k.op k.start k.read k.s k.view k.added (Sure K tag more) (InPut more) w) two.1
               (knows_more tag k.op k.start k.read k.s k.view k.added (Known (K tag) (own tag past)) (StoredIn (own tag past)) (Sure K tag more) (InPut more) k.version

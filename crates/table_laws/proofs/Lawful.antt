@@ -214,7 +214,7 @@ Claim K tag statement (Some reply) past = ClaimOf K tag statement past reply
 pub record IsCommitOf (K : List ℕ → List ℕ → Type 0) (tag : Tag) (statement : Statement) (past : Entries) (name body : List ℕ) : Type 0 where
   pub version : ℕ
   pub is : name ≡ commit_text (suc version)
-  pub small : suc version < 2 ^ 64
+  pub small : suc version < 2 ^ 60
   pub s : Snapshot
   pub op : Operation Scope
   pub is_op : operation_of (schema_in s) statement ≡ Some op

@@ -106,7 +106,7 @@ module _ (K : List ℕ → List ℕ → Type 0) (tag : Tag) (op : Operation Scop
     written : (v version : ℕ) → suc v ≡ version → Writes version plan.text (plan_of tag start read op view (files_in s) added)
     written v version is = subst (λ (n : ℕ). Writes n plan.text (plan_of tag start read op view (files_in s) added)) is (writes v)
 
-    pub attempts : (limit : ℕ) (out : Option Finish) (kept : Option Kept) (past es : Entries) → suc read + (0 + limit) < 2 ^ 64 → P 0 past → AtCommit tag limit out kept start (suc read) plan (committed read) es
+    pub attempts : (limit : ℕ) (out : Option Finish) (kept : Option Kept) (past es : Entries) → suc read + (0 + limit) < 2 ^ 60 → P 0 past → AtCommit tag limit out kept start (suc read) plan (committed read) es
         → AllLawful K tag statement (reply_in out) past es
     attempts limit out kept past es small p h =
         at_attempt K tag statement out kept plan (record { start = start; retention = retention; first = suc read }) (committed read) P
@@ -150,7 +150,7 @@ module _ (K : List ℕ → List ℕ → Type 0) (tag : Tag) (op : Operation Scop
           knows = won_over p.before (Known K (f ∷ e ∷ past)) (StoredIn (f ∷ e ∷ past)) body (inr (inl (got ∙ ap (λ (n : ℕ). Get (commit_text n)) p.next, answer))) (clears p.before body winner clear)
               (grown p.before (e ∷ past) f (grown p.before past e p.knows));
           all_lost = lost_to e f past (commit_text (suc read + lost)) plan.text body put got answer why p.all_lost;
-          puts = other_put f (e ∷ past) (Get (commit_text (suc read + lost))) got refl ∙ one_put e past (suc read + lost) plan.text small put ∙ ap (λ (n : ℕ). n ∷ versions_put past) (let n : suc read + lost ≡ read + suc lost = omega arith in n)
+          puts = other_put f (e ∷ past) (Get (commit_text (suc read + lost))) got refl ∙ one_put e past (suc read + lost) plan.text (omega (arith, small)) put ∙ ap (λ (n : ℕ). n ∷ versions_put past) (let n : suc read + lost ≡ read + suc lost = omega arith in n)
               ∙ ap (λ (l : List ℕ). (read + suc lost) ∷ l) p.puts;
           won = one_won e f past read p.before body (got ∙ ap (λ (n : ℕ). Get (commit_text n)) p.next) answer p.won;
         })
@@ -170,7 +170,7 @@ module _ (K : List ℕ → List ℕ → Type 0) (tag : Tag) (op : Operation Scop
           next = let n = p.next in omega arith;
           writes = written p.before l.version (let n = p.next in omega arith);
           knows = grown p.before past e p.knows;
-          lost = lost_below e past (suc read + lost) plan.text l.version version small put p.all_lost;
+          lost = lost_below e past (suc read + lost) plan.text l.version version (omega (arith, small)) put p.all_lost;
           there = inl (inl (put ∙ ap (λ (v : ℕ). PutNew (commit_text v) plan.text) (sym version), answer));
         })
         (λ lost past e f l put fault got answer version attempts small p. record {
@@ -189,7 +189,7 @@ module _ (K : List ℕ → List ℕ → Type 0) (tag : Tag) (op : Operation Scop
           next = let n = p.next in omega arith;
           writes = written p.before l.version (let n = p.next in omega arith);
           knows = grown p.before (e ∷ past) f (grown p.before past e p.knows);
-          lost = still_below f (e ∷ past) (commit_text (suc read + lost)) got l.version (lost_below e past (suc read + lost) plan.text l.version version small put p.all_lost);
+          lost = still_below f (e ∷ past) (commit_text (suc read + lost)) got l.version (lost_below e past (suc read + lost) plan.text l.version version (omega (arith, small)) put p.all_lost);
           there = inr (inl (got ∙ ap (λ (v : ℕ). Get (commit_text v)) (sym version), answer));
         })
         limit 0 [] past es small p h
