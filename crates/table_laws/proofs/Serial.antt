@@ -1,6 +1,6 @@
 -- Each committed version follows from the one before.
 use Rattle.std.proofs.Common.{◌≡◌, ◌⊎◌, inl, inr, ℕ, zero, suc, ◌+◌, ◌-◌, ◌≤◌, ◌<◌, ◌^◌, not, List, [], ◌∷◌, length, refl, sym, ◌∙◌, ap, subst, arith}
-use Rattle.std.specs.Prelude.{Option, Some, None, option_map, option_and_then}
+use Rattle.std.specs.Prelude.{Option, Some, None, option_and_then}
 use Rattle.edge_api.specs.declared.call.Tag.{Tag}
 use Rattle.edge_api.specs.Journal.{Objects}
 use Rattle.row_base.specs.Sorting.{Sorts}
@@ -22,23 +22,22 @@ use Rattle.table_changes.specs.Operations.{Operation, IsSound, got_files, taken_
 use Rattle.table_changes.specs.Laws.{AllHold, Landed, Appends}
 use Rattle.table_changes.proofs.Files.{live_once}
 use Rattle.table_changes.proofs.Winners.{each_version_is_serial}
-use Rattle.table_laws.specs.Commits.{IsWholeFile, changes_of, schema_of, files_in, meta_in}
+use Rattle.table_laws.specs.Commits.{IsWholeFile, schema_of, files_in, meta_in}
 use Rattle.table_laws.specs.Operations.{Scope, passes, may, operation_of}
 use Rattle.table_laws.specs.History.{Put, put_under, body_of, commit_at, live_at, meta_at, schema_at, level_for, rows_of, rows_at, IsCommitted}
 use Rattle.table_laws.specs.Runs.{listed_by, version_read}
-use Rattle.table_laws.specs.Laws.{schema_read, operation_by, operation_at, inserted_by, appended, Step, versions_from, IsWonBefore, Lands, HasCommitted, HasRead, ReadsAt, AllAre, FileReads, AllFilesRead}
-use Rattle.table_laws.proofs.Sessions.{GotIn, StoredIn}
-use Rattle.table_laws.proofs.CommitEffects.{plan_of, effect_of, Says, IsWhole, Writes, judge_of}
+use Rattle.table_laws.specs.Laws.{schema_read, operation_by, operation_at, inserted_by, appended, Step, versions_from, IsWonBefore, Lands, HasRead, ReadsAt, AllAre, FileReads, AllFilesRead}
+use Rattle.table_laws.proofs.CommitEffects.{plan_of, effect_of, Says, IsWhole, judge_of}
 use Rattle.table_laws.proofs.Sound.{each_operation_is_sound, says_truly}
-use Rattle.table_laws.proofs.Lawful.{Known, PutIn, AllGot, Knows, IsOwn, ClaimsCommit, ClaimsRows}
+use Rattle.table_laws.proofs.Lawful.{Known, AllGot, Knows, ClaimsRows}
 use Rattle.table_laws.proofs.Known.{loaded_more, knows_more, scanned_more}
 use Rattle.table_laws.proofs.Tries.{put_in_order, put_under-front}
 use Rattle.table_laws.proofs.Names.{same_file}
 use Rattle.table_laws.proofs.Shown.{InPut, Sure, backwards, given_is, own_got, put_of_body, some_same}
 use Rattle.table_laws.proofs.Standing.{Stands, Committed}
 use Rattle.table_laws.proofs.Effects.{commit_is, said_is, loaded_files, loaded_meta, same_written, same_effect, same_judge}
-use Rattle.table_laws.proofs.Parts.{parts_rows, parts_read, parts_apart, parts_whole, parts_new, parts_owner}
-use Rattle.table_laws.proofs.Readings.{some_put, some_of_body, is_some, none_more, empty_first, same_commit, first_added, first_path, added_is, scanned_rows, scanned_long, length-paths, length-files, first_loaded, lines_all, picked_are, times-picked}
+use Rattle.table_laws.proofs.Parts.{parts_rows, parts_read, parts_apart, parts_whole, parts_new}
+use Rattle.table_laws.proofs.Readings.{some_put, some_of_body, is_some, none_more, empty_first, scanned_rows, scanned_long, length-paths, length-files, first_loaded, lines_all, picked_are, times-picked}
 
 module _ (K : Tag → List ℕ → List ℕ → Type 0) (script : Tag → Option Statement) (replies : Tag → Option Reply) (tags : (tag : Tag) (statement : Statement) → script tag ≡ Some statement → IsTag tag)
     (past : Entries) (os : Objects) (ps : List Put) (clock : ℕ) (s : Stands K script replies tags past os ps clock) (known : (t : Tag) (n b : List ℕ) → K t n b → InPut ps n b) where
