@@ -4,7 +4,6 @@ use Rattle.std.specs.Prelude.{Option, Some, None, if◌then◌else◌, option_ma
 use Rattle.std.specs.Str.{bytes_eq}
 use Rattle.std.specs.Ordering.{is_lt, nat_cmp}
 use Rattle.std.specs.Cmp.Lexicographic.{slice_cmp}
-use Rattle.edge_api.specs.declared.call.Tag.{Tag}
 use Rattle.table_rules.specs.Names.{commit_text}
 use Rattle.line_texts.specs.Texts.{columns_of_text}
 use Rattle.snapshot_replay.specs.Table as log
@@ -17,7 +16,7 @@ use Rattle.table_changes.proofs.Folded.{each_verdict_is_local}
 use Rattle.table_laws.specs.Commits.{file_of, line_of, info_of, meta_of, changes_of, files_in, meta_in}
 use Rattle.table_laws.specs.Operations.{Scope, passes, may}
 use Rattle.table_laws.specs.History.{Put, or_none, or_nothing, commit_at, live_at, meta_at, rows_of}
-use Rattle.table_laws.proofs.CommitEffects.{new_file, effect_of, Says, level_in, judge_of}
+use Rattle.table_laws.proofs.CommitEffects.{effect_of, Says, level_in, judge_of}
 use Rattle.table_laws.proofs.Sessions.{LoadedTo}
 use Rattle.table_laws.proofs.Lawful.{AllGot}
 use Rattle.table_laws.proofs.Shown.{InPut}
@@ -123,9 +122,9 @@ module _ (ps : List Put) where
     pub same_written : op.writes view fs ≡ op.writes (rows_of ps at) fs
     same_written = (sound.local view (rows_of ps at) fs agree).0
 
-    pub same_effect : (tag : Tag) (start : ℕ) → effect_of tag start op view fs ≡ effect_of tag start op (rows_of ps at) fs
-    same_effect tag start =
-        ap (λ (gone : List File). record { info = Some (info_of (is_literal op.kind)); protocol = None; meta = None; txns = []; lines = lines_of 0 (not op.moves) gone (new_file tag start ∷ []) })
+    pub same_effect : (added : List File) → effect_of op view fs added ≡ effect_of op (rows_of ps at) fs added
+    same_effect added =
+        ap (λ (gone : List File). record { info = Some (info_of (is_literal op.kind)); protocol = None; meta = None; txns = []; lines = lines_of 0 (not op.moves) gone added })
         (sound.local view (rows_of ps at) fs agree).1
 
     pub same_judge : (meta : Option MetaData) (t : log.Commit) → judge_of meta op view fs t ≡ judge_of meta op (rows_of ps at) fs t

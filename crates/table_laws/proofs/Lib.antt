@@ -11,8 +11,10 @@ pub mod Versions
 pub mod Statements
 pub mod Kept
 pub mod Names
+pub mod Members
 pub mod Puts
 pub mod Shown
+pub mod Clocks
 pub mod Standing
 pub mod Landing
 pub mod Journals
@@ -20,7 +22,10 @@ pub mod Listings
 pub mod Effects
 pub mod Tries
 pub mod Readings
+pub mod Parts
+pub mod Once
 pub mod Serial
+pub mod Owners
 pub mod Ends
 pub mod Folded
 pub mod Refused
@@ -28,5 +33,6 @@ pub mod Moments
 pub mod Created
 pub mod Views
 pub mod OneSession
+pub mod Starts
 pub mod ViewsMean
 pub mod Run

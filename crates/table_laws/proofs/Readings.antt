@@ -1,7 +1,8 @@
 -- Commits and files of versions, by what was put and read of them.
-use Rattle.std.proofs.Common.{◌≡◌, ℕ, zero, suc, Bool, true, false, List, [], ◌∷◌, ◌++◌, map, length, refl, sym, ◌∙◌, ap, subst, arith}
+use Rattle.std.proofs.Common.{◌≡◌, ◌≤◌, ℕ, zero, suc, Bool, true, false, List, [], ◌∷◌, ◌++◌, map, length, refl, sym, ◌∙◌, ap, subst, arith}
 use Rattle.std.specs.Prelude.{Option, Some, None, IsSome, if◌then◌else◌, option_map, option_and_then}
 use Rattle.std.specs.Str.{bytes_eq}
+use Rattle.std.specs.List.{filter}
 use Rattle.std.specs.Ordering.{is_lt, nat_cmp}
 use Rattle.std.specs.Cmp.Lexicographic.{slice_cmp}
 use Rattle.std.proofs.lemmas.Slice.Eq.{bytes_eq-Decides}
@@ -13,11 +14,11 @@ use Rattle.snapshot_replay.specs.Table.{Commit as LogCommit, paths_of as said_pa
 use Rattle.statement_calls.specs.Texts.{read_commit}
 use Rattle.statement_calls.specs.Answered.{rows_of_files}
 use Rattle.table_changes.specs.Rows.{Row}
-use Rattle.table_changes.specs.Table.{File, MetaData, FileLine, Removes, Adds, without_path, placed, reconciled, times, rows_in, lines_of}
+use Rattle.table_changes.specs.Table.{File, MetaData, FileLine, Removes, Adds, without_path, placed, reconciled, times, rows_in, adds_lines, lines_of}
 use Rattle.table_laws.specs.Commits.{file_of}
 use Rattle.table_laws.specs.History.{Put, put_under, body_of, or_nothing, commit_at, rows_of}
-use Rattle.table_laws.specs.Laws.{FileReads, AllFilesRead}
-use Rattle.table_changes.proofs.Files.{is_one, times-placed, times-without_other, times-without_same}
+use Rattle.table_laws.specs.Laws.{AllAre}
+use Rattle.table_changes.proofs.Files.{is_one, times-cons, times-placed, times-without_other, times-without_same}
 use Rattle.table_laws.proofs.Lawful.{AllScanned}
 use Rattle.table_laws.proofs.Sessions.{LoadedTo}
 use Rattle.table_laws.proofs.Shown.{InPut}
@@ -35,14 +36,26 @@ pub is_some : (o : Option Put) (p : Put) → o ≡ Some p → IsSome o
 is_some None p h = cc
 is_some (Some q) p h = refl
 
+-- none of these files has the path
+abbrev pub AllApart : List ℕ → List File → Type 0
+AllApart p [] = Unit {0}
+AllApart p (a ∷ fs) = (bytes_eq a.path p ≡ false) × AllApart p fs
+
 -- a path that is not there and not added is not there later
-pub none_more : (p : List ℕ) (stamp : ℕ) (changes : Bool) (gone : List File) (a : File) (fs : List File) → times p fs ≡ 0 → bytes_eq a.path p ≡ false → times p (reconciled fs (lines_of stamp changes gone (a ∷ []))) ≡ 0
-none_more p stamp changes [] a fs none apart =
-    let s = times-placed p a (without_path fs a.path) in
-    let t : times p (without_path fs a.path) ≡ times p fs = times-without_other p a.path fs apart in
-    let u : is_one p a ≡ 0 = ap (λ (b : Bool). if b then 1 else 0) apart in
-    omega arith
-none_more p stamp changes (g ∷ gone) a fs none apart = none_more p stamp changes gone a (without_path fs g.path) (by (bytes_eq g.path p) refl) apart
+none_added : (p : List ℕ) (changes : Bool) (added fs : List File) → times p fs ≡ 0 → AllApart p added → times p (reconciled fs (adds_lines changes added)) ≡ 0
+none_added p changes [] fs none apart = none
+none_added p changes (a ∷ added) fs none apart = none_added p changes added (placed a (without_path fs a.path)) here apart.1
+  where
+    here : times p (placed a (without_path fs a.path)) ≡ 0
+    here =
+        let s = times-placed p a (without_path fs a.path) in
+        let t : times p (without_path fs a.path) ≡ times p fs = times-without_other p a.path fs apart.0 in
+        let u : is_one p a ≡ 0 = ap (λ (b : Bool). if b then 1 else 0) apart.0 in
+        omega (arith, s, t, u, none)
+
+pub none_more : (p : List ℕ) (stamp : ℕ) (changes : Bool) (gone added fs : List File) → times p fs ≡ 0 → AllApart p added → times p (reconciled fs (lines_of stamp changes gone added)) ≡ 0
+none_more p stamp changes [] added fs none apart = none_added p changes added fs none apart
+none_more p stamp changes (g ∷ gone) added fs none apart = none_more p stamp changes gone added (without_path fs g.path) (by (bytes_eq g.path p) refl) apart
   where
     by : (b : Bool) → bytes_eq g.path p ≡ b → times p (without_path fs g.path) ≡ 0
     by true e = subst (λ (n : List ℕ). times p (without_path fs n) ≡ 0) (sym ((bytes_eq-Decides g.path p).0 e)) (times-without_same p fs)
@@ -63,18 +76,20 @@ empty_first ps = by (body_of (put_under ps (commit_text 0)))
 pub same_commit : (a b : LogCommit) → Some a ≡ Some b → a ≡ b
 same_commit a b h = cc
 
-pub same_path : (a b : List ℕ) → Some a ≡ Some b → a ≡ b
-same_path a b h = cc
-
 -- the first path that is added
 abbrev pub first_added : List FileLine → Option (List ℕ)
 first_added [] = None
 first_added (Removes t changes ∷ ls) = first_added ls
 first_added (Adds a changes ∷ ls) = Some a.path
 
-pub added_is : (stamp : ℕ) (changes : Bool) (gone : List File) (a : File) → first_added (lines_of stamp changes gone (a ∷ [])) ≡ Some a.path
-added_is stamp changes [] a = refl
-added_is stamp changes (g ∷ gone) a = added_is stamp changes gone a
+abbrev pub first_path : List File → Option (List ℕ)
+first_path [] = None
+first_path (a ∷ fs) = Some a.path
+
+pub added_is : (stamp : ℕ) (changes : Bool) (gone added : List File) → first_added (lines_of stamp changes gone added) ≡ first_path added
+added_is stamp changes [] [] = refl
+added_is stamp changes [] (a ∷ added) = refl
+added_is stamp changes (g ∷ gone) added = added_is stamp changes gone added
 
 -- the files that were got hold the rows under their paths
 pub scanned_rows : (ps : List Put) (at : Option MetaData) (adds : List Add) (fs : List ScannedFile) → AllScanned (InPut ps) (said_paths adds) fs → rows_of_files fs ≡ rows_in (rows_of ps at) (map file_of adds)
@@ -104,23 +119,46 @@ pub first_loaded : (G : List ℕ → List ℕ → Type 0) (n : ℕ) (s : Snapsho
 first_loaded G zero s h = (h.1, h.4, h.2, h.5)
 first_loaded G (suc n) s h = first_loaded G n h.0 h.3
 
-without_read : (ps : List Put) (path : List ℕ) (fs : List File) → AllFilesRead ps fs → AllFilesRead ps (without_path fs path)
-without_read ps path [] h = tt
-without_read ps path (a ∷ fs) h = by (bytes_eq a.path path) (without_read ps path fs h.1)
-  where
-    by : (b : Bool) → AllFilesRead ps (without_path fs path) → AllFilesRead ps (if b then without_path fs path else a ∷ without_path fs path)
-    by true rest = rest
-    by false rest = (h.0, rest)
+-- what all files are stays so after a commit that adds some that are so
+module _ (P : File → Type 0) where
+  without_all : (path : List ℕ) (fs : List File) → AllAre P fs → AllAre P (without_path fs path)
+  without_all path [] h = tt
+  without_all path (a ∷ fs) h = by (bytes_eq a.path path) (without_all path fs h.1)
+    where
+      by : (b : Bool) → AllAre P (without_path fs path) → AllAre P (if b then without_path fs path else a ∷ without_path fs path)
+      by true rest = rest
+      by false rest = (h.0, rest)
 
-placed_read : (ps : List Put) (a : File) (fs : List File) → FileReads ps a.name → AllFilesRead ps fs → AllFilesRead ps (placed a fs)
-placed_read ps a [] one h = (one, tt)
-placed_read ps a (b ∷ fs) one h = by (is_lt (slice_cmp nat_cmp b.path a.path)) (placed_read ps a fs one h.1)
-  where
-    by : (c : Bool) → AllFilesRead ps (placed a fs) → AllFilesRead ps (if c then b ∷ placed a fs else a ∷ b ∷ fs)
-    by true rest = (h.0, rest)
-    by false rest = (one, h)
+  placed_all : (a : File) (fs : List File) → P a → AllAre P fs → AllAre P (placed a fs)
+  placed_all a [] one h = (one, tt)
+  placed_all a (b ∷ fs) one h = by (is_lt (slice_cmp nat_cmp b.path a.path)) (placed_all a fs one h.1)
+    where
+      by : (c : Bool) → AllAre P (placed a fs) → AllAre P (if c then b ∷ placed a fs else a ∷ b ∷ fs)
+      by true rest = (h.0, rest)
+      by false rest = (one, h)
 
--- files that read, after a commit that adds one that reads
-pub lines_read : (ps : List Put) (stamp : ℕ) (changes : Bool) (gone : List File) (a : File) (fs : List File) → AllFilesRead ps fs → FileReads ps a.name → AllFilesRead ps (reconciled fs (lines_of stamp changes gone (a ∷ [])))
-lines_read ps stamp changes [] a fs h one = placed_read ps a (without_path fs a.path) one (without_read ps a.path fs h)
-lines_read ps stamp changes (g ∷ gone) a fs h one = lines_read ps stamp changes gone a (without_path fs g.path) (without_read ps g.path fs h) one
+  adds_all : (changes : Bool) (added fs : List File) → AllAre P fs → AllAre P added → AllAre P (reconciled fs (adds_lines changes added))
+  adds_all changes [] fs h new = h
+  adds_all changes (a ∷ added) fs h new = adds_all changes added (placed a (without_path fs a.path)) (placed_all a (without_path fs a.path) new.0 (without_all a.path fs h)) new.1
+
+  pub lines_all : (stamp : ℕ) (changes : Bool) (gone added fs : List File) → AllAre P fs → AllAre P added → AllAre P (reconciled fs (lines_of stamp changes gone added))
+  lines_all stamp changes [] added fs h new = adds_all changes added fs h new
+  lines_all stamp changes (g ∷ gone) added fs h new = lines_all stamp changes gone added (without_path fs g.path) (without_all g.path fs h) new
+
+  -- and so are those of them that are picked
+  pub picked_are : (t : File → Bool) (fs : List File) → AllAre P fs → AllAre P (filter t fs)
+  picked_are t [] h = tt
+  picked_are t (a ∷ fs) h = by (t a) (picked_are t fs h.1)
+    where
+      by : (b : Bool) → AllAre P (filter t fs) → AllAre P (if b then a ∷ filter t fs else filter t fs)
+      by true rest = (h.0, rest)
+      by false rest = rest
+
+-- a path isn't there oftener among files that are picked
+pub times-picked : (p : List ℕ) (t : File → Bool) (fs : List File) → times p (filter t fs) ≤ times p fs
+times-picked p t [] = omega arith
+times-picked p t (a ∷ fs) = by (t a) (times-picked p t fs)
+  where
+    by : (b : Bool) → times p (filter t fs) ≤ times p fs → times p (if b then a ∷ filter t fs else filter t fs) ≤ times p (a ∷ fs)
+    by true rest = let one = times-cons p a (filter t fs) in let all = times-cons p a fs in omega arith
+    by false rest = let all = times-cons p a fs in omega arith
