@@ -8,8 +8,7 @@ use Rattle.op_types.specs.declared.statement.Statement.TheVariants.{Table, Inser
 use Rattle.op_types.specs.declared.statement.TableSpec.{TableSpec}
 use Rattle.snapshot_replay.specs.Table.{Snapshot}
 use Rattle.table_changes.specs.Rows.{Row}
-use Rattle.table_changes.specs.Table.{File, FileLine, Removes, Adds}
-use Rattle.table_changes.specs.Conflicts.{first_removed}
+use Rattle.table_changes.specs.Table.{File}
 use Rattle.table_changes.specs.Operations.{Operation, IsSound}
 use Rattle.table_changes.specs.Statements.{insert_of, making_of}
 use Rattle.table_changes.proofs.Statements.{insert_sound, making_sound}
