@@ -1,7 +1,7 @@
 -- Each case of the conflict check, on one winner each.
 use Rattle.std.specs.Prelude.{◌≡◌, ℕ, Bool, true, false, [], ◌∷◌, Option, Some, None}
 use Rattle.table_changes.specs.Table.{FileLine, Removes, Adds, Level, Serializable, WriteSerializable, Commit, tombstone_of}
-use Rattle.table_changes.specs.Conflicts.{LooksAt, Makes, Literal, Settings, Scans, Rewrites, Clash, Protocol, Metadata, Append, DeleteRead, DeleteDelete, Transaction, Reads, first_clash}
+use Rattle.table_changes.specs.Conflicts.{LooksAt, Makes, Literal, Settings, Scans, Selects, Rewrites, Clash, Protocol, Metadata, Append, DeleteRead, DeleteDelete, Transaction, Reads, first_clash}
 use Rattle.table_changes.specs.Example.{file, commit, some_protocol, metadata}
 
 -- it got the file 1 and takes it out, a file of any path may match, and it names an application 7
@@ -36,6 +36,7 @@ pub record EachCaseClashes : Type 0 where
   pub append_first : clash Serializable Scans (commit false (removes true 1 ∷ adds true 3 ∷ [])) ≡ Some (Append (3 ∷ []))
   -- one that takes no file out doesn't look at that, and one that isn't an insert at no transaction
   pub delete_insert : clash Serializable Literal (commit false (removes true 1 ∷ [])) ≡ None
+  pub delete_select : clash WriteSerializable Selects (commit false (removes true 1 ∷ [])) ≡ Some (DeleteRead (1 ∷ []))
   pub change_app : clash Serializable Scans (record (commit false []) { txns = (7 ∷ [], 1) ∷ [] }) ≡ None
   -- a transaction of the same application comes last
   pub same : clash Serializable Literal (record (commit false []) { txns = (8 ∷ [], 1) ∷ (7 ∷ [], 1) ∷ [] }) ≡ Some (Transaction (7 ∷ []))

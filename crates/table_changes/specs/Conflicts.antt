@@ -2,14 +2,16 @@
 use Rattle.std.specs.Prelude.{ℕ, Bool, true, false, not, ◌&&◌, ◌||◌, if◌then◌else◌, List, [], ◌∷◌, Option, Some, None, option_map}
 use Rattle.table_changes.specs.Table.{File, FileLine, Removes, Adds, Level, Serializable, WriteSerializable, Commit, is_blind, has_path, number_in}
 
--- what a statement looks at in a winner's lines: one that makes a table at any winner, an insert of literal rows at the applications of
--- transactions and at no file, a change of the table's settings at no file, one that reads rows at new files that may match its scope and
--- at removes of files that it got or takes out, one that rewrites files at removes of files that it takes out, and at no others
+-- what a statement looks at in a winner's lines: one that makes a table at any winner; an insert of literal rows at the applications of
+-- transactions; a change of the table's settings at no file; one that changes rows at new files that may match its scope and at removes of
+-- files that it got or takes out; one that adds rows by those that it reads at new files that may match and at removes of files that it got;
+-- and one that rewrites files at removes of those
 pub data LooksAt : Type 0 where
   Makes : LooksAt
   Literal : LooksAt
   Settings : LooksAt
   Scans : LooksAt
+  Selects : LooksAt
   Rewrites : LooksAt
 
 abbrev pub is_making : LooksAt → Bool
@@ -22,6 +24,7 @@ is_literal k = false
 
 abbrev pub is_scan : LooksAt → Bool
 is_scan Scans = true
+is_scan Selects = true
 is_scan k = false
 
 -- whether it may take files out
@@ -30,6 +33,7 @@ may_remove Makes = false
 may_remove Literal = false
 may_remove Settings = false
 may_remove Scans = true
+may_remove Selects = false
 may_remove Rewrites = true
 
 pub data Clash : Type 0 where
