@@ -9,7 +9,7 @@ use Rattle.line_texts.proofs.Laws.{path_reads_back}
 use Rattle.snapshot_replay.specs.Table.{Commit, table_commit, append_commit}
 use Rattle.statement_calls.specs.Texts.{read_commit}
 use Rattle.table_changes.specs.Rows.{Row}
-use Rattle.table_changes.specs.Table.{File, FileLine, MetaData, paths_of, lines_of}
+use Rattle.table_changes.specs.Table.{File, FileLine, MetaData, paths_of}
 use Rattle.table_changes.specs.Conflicts.{DeleteDelete, clash_or, first_removed, first_clash}
 use Rattle.table_changes.specs.Operations.{reads_of}
 use Rattle.table_changes.specs.Statements.{insert_of}
