@@ -1,5 +1,5 @@
 -- Each case of the conflict check, on one winner each.
-use Rattle.std.specs.Prelude.{◌≡◌, ℕ, Bool, true, false, List, [], ◌∷◌, Option, Some, None}
+use Rattle.std.specs.Prelude.{◌≡◌, ℕ, Bool, true, false, [], ◌∷◌, Option, Some, None}
 use Rattle.table_changes.specs.Table.{FileLine, Removes, Adds, Level, Serializable, WriteSerializable, Commit, tombstone_of}
 use Rattle.table_changes.specs.Conflicts.{LooksAt, Makes, Literal, Settings, Scans, Rewrites, Clash, Protocol, Metadata, Append, DeleteRead, DeleteDelete, Transaction, Reads, first_clash}
 use Rattle.table_changes.specs.Example.{file, commit, some_protocol, metadata}

@@ -1,5 +1,5 @@
 -- What a commit says, sorted out of its actions (PROTOCOL.md, "Actions").
-use Rattle.std.specs.Prelude.{◌≡◌, ℕ, Bool, true, false, List, [], ◌∷◌, ◌++◌, Option, Some, None}
+use Rattle.std.specs.Prelude.{◌≡◌, ℕ, Bool, false, List, [], ◌∷◌, ◌++◌, Option, Some, None}
 use Rattle.log_actions.specs.declared.action.CommitInfo.{CommitInfo}
 use Rattle.log_actions.specs.declared.action.MetaData.{MetaData}
 use Rattle.log_actions.specs.declared.action.Protocol.{Protocol as ProtocolValue}

@@ -26,7 +26,9 @@ use Rattle.table_laws.proofs.Shown.{InPut, own_got, got_at, stored_at}
 use Rattle.table_laws.proofs.Standing.{Keeps, KeepsPart, nothing_stands}
 use Rattle.table_laws.proofs.Journals.{StandsAt, stands_at}
 use Rattle.table_laws.proofs.Readings.{empty_first}
-use Rattle.table_laws.proofs.Serial.{makes_table, commits_read, files_read, step, lands, has_committed, has_read, once}
+use Rattle.table_laws.proofs.Once.{makes_table, once}
+use Rattle.table_laws.proofs.Serial.{commits_read, files_read, step, lands, has_read}
+use Rattle.table_laws.proofs.Owners.{has_committed}
 use Rattle.table_laws.proofs.Folded.{rows_folded}
 
 module _ (limit : ℕ) (script : Tag → Option Statement) (outcomes : Tag → Option Finish) (moments : List Moment) (legal : IsLegal [] 0 moments) (run : IsRun limit script outcomes (entries_of moments)) where
@@ -102,12 +104,12 @@ module _ (limit : ℕ) (script : Tag → Option Statement) (outcomes : Tag → O
   pub once_at : CommitsOnce moments
   once_at v w p q small also is there same =
       let e = run_end limit script outcomes moments legal run in
-      once (SessionKnows (entries_of moments)) script (replies_of outcomes) run.tags e.past e.os (history [] moments) e.clock e.stands (known_at limit script outcomes moments legal run e) v w p q small also is there same
+      once (SessionKnows (entries_of moments)) script (replies_of outcomes) run.tags e.past e.os (history [] moments) e.clock e.stands v w p q small also is there same
 
   pub first_at : FirstMakesTable script moments
   first_at p is =
       let e = run_end limit script outcomes moments legal run in
-      makes_table (SessionKnows (entries_of moments)) script (replies_of outcomes) run.tags e.past e.os (history [] moments) e.clock e.stands (known_at limit script outcomes moments legal run e) p is
+      makes_table (SessionKnows (entries_of moments)) script (replies_of outcomes) run.tags e.past e.os (history [] moments) e.clock e.stands p is
 
   pub commits_at : CommitsRead moments
   commits_at v k small is le =

@@ -1,7 +1,7 @@
 -- From entry to entry of a journal: each lawful entry keeps what stands (call_step), so all of it stands at each moment (stands_at).
 -- Ends, Moments and Views cite stands_at.
 -- No other file matches on a call's answer.
-use Rattle.std.proofs.Common.{◌≡◌, inl, inr, ℕ, suc, ◌≤◌, ◌<◌, ◌^◌, Bool, true, false, List, [], ◌∷◌, ◌++◌, refl, sym, ◌∙◌, ap, subst}
+use Rattle.std.proofs.Common.{◌≡◌, ◌⊎◌, inl, inr, ℕ, suc, ◌≤◌, ◌<◌, ◌^◌, Bool, true, false, List, [], ◌∷◌, ◌++◌, refl, sym, ◌∙◌, ap, subst}
 use Rattle.std.proofs.lemmas.List.{append-nil, append_assoc}
 use Rattle.std.specs.Prelude.{Option, Some, None}
 use Rattle.edge_api.specs.declared.call.Tag.{Tag}
@@ -117,6 +117,18 @@ module _ (K : Tag → List ℕ → List ℕ → Type 0) (script : Tag → Option
     not_stored (Time t) right is = cc
     not_stored Waited right is = cc
 
+    -- a put of a free name is stored, or answered by a fault
+    free_answer : (a : Answer) → Answers a Stored → (a ≡ Stored) ⊎ (a ≡ Fault)
+    free_answer Stored right = inl refl
+    free_answer Fault right = inr refl
+    free_answer (Body b) right = cc
+    free_answer Missing right = cc
+    free_answer Taken right = cc
+    free_answer (Names l) right = cc
+    free_answer Gone right = cc
+    free_answer (Time t) right = cc
+    free_answer Waited right = cc
+
     -- a put, by what is under its name
     module _ (tag : Tag) (name body : List ℕ) (clock : ℕ) (le : before ≤ clock) (statement : Statement) (is_statement : script tag ≡ Some statement) (may : MayPut (K tag) tag statement (own tag past) name body) where
       abbrev entry_of : Answer → JournalEntry
@@ -135,17 +147,24 @@ module _ (K : Tag → List ℕ → List ℕ → Type 0) (script : Tag → Option
       put_quiet a apart =
           quiet_call (entry_of a) os clock le (λ n o h. h) (λ v h. h) (λ n b h k. cc) (λ v h k. cc) (λ n b h k. apart k) (quiet K script replies tags past os ps before s tag statement is_statement name body may) (λ h. cc) (λ prefix h. cc)
 
+      at_stored : (u : Bool) → object_at os name ≡ None → Next Stored u None
+      at_stored u free = added K script replies tags past os ps before s tag name body Stored clock le statement is_statement may free (λ h. cc)
+
+      fault_done : object_at os name ≡ None → Next Fault true None
+      fault_done free = added K script replies tags past os ps before s tag name body Fault clock le statement is_statement may free (λ h. cc)
+
+      fault_lost : Next Fault false None
+      fault_lost = idle (entry_of Fault) clock os [] refl refl (put_quiet Fault (λ h. cc))
+
+      at_fault : (u : Bool) → object_at os name ≡ None → Next Fault u None
+      at_fault true free = fault_done free
+      at_fault false free = fault_lost
+
       at_free : (a : Answer) (u : Bool) → object_at os name ≡ None → Answers a Stored → Next a u None
-      at_free Stored u free right = added K script replies tags past os ps before s tag name body Stored clock le statement is_statement may free (λ h. cc)
-      at_free Fault true free right = added K script replies tags past os ps before s tag name body Fault clock le statement is_statement may free (λ h. cc)
-      at_free Fault false free right = idle (entry_of Fault) clock os [] refl refl (put_quiet Fault (λ h. cc))
-      at_free (Body b) u free right = cc
-      at_free Missing u free right = cc
-      at_free Taken u free right = cc
-      at_free (Names l) u free right = cc
-      at_free Gone u free right = cc
-      at_free (Time t) u free right = cc
-      at_free Waited u free right = cc
+      at_free a u free right = elim (free_answer a right) [
+        | inl is ↦ subst (λ (b : Answer). Next b u None) (sym is) (at_stored u free)
+        | inr is ↦ subst (λ (b : Answer). Next b u None) (sym is) (at_fault u free)
+      ]
 
       at_there : (a : Answer) (u : Bool) (o : Object) → Answers a Taken → Next a u (Some o)
       at_there a u o right = idle (entry_of a) clock (after_answer a u os os) (if_done a u []) (same_after a u os) (same_if_done a u) (put_quiet a (not_stored a right))

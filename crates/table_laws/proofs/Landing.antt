@@ -18,8 +18,7 @@ use Rattle.table_rules.proofs.Names.{commits_differ, data_is_no_commit}
 use Rattle.call_phases.specs.Phases.{Entries}
 use Rattle.actor_core.specs.Entries.{own}
 use Rattle.table_laws.specs.Commits.{files_in}
-use Rattle.table_laws.proofs.CommitEffects as effects
-use Rattle.table_laws.proofs.CommitEffects.{Says}
+use Rattle.table_laws.proofs.CommitEffects.{plan_of, Writes}
 use Rattle.table_laws.specs.History.{Put, put_under, body_of}
 use Rattle.table_laws.specs.Runs.{listed_by, told_by, version_put}
 use Rattle.table_laws.proofs.Sessions.{GotIn, StoredIn}
@@ -158,7 +157,8 @@ module _ (K : Tag → List ℕ → List ℕ → Type 0) (script : Tag → Option
           s = k.s;
           view = k.view;
           added = k.added;
-          says = subst (λ (w : ℕ). Says (suc w) body (effects.effect_of k.op k.view (files_in k.s) k.added)) two.1 k.says;
+          small = let version = two.1 in let most = k.small in omega arith;
+          writes = subst (λ (w : ℕ). Writes (suc w) body (plan_of tag k.start k.read k.op k.view (files_in k.s) k.added)) two.1 k.writes;
           knows = subst (λ (w : ℕ). Knows tag k.op k.start k.read k.s k.view k.added (Sure K tag more) (InPut more) w) two.1
               (knows_more tag k.op k.start k.read k.s k.view k.added (Known (K tag) (own tag past)) (StoredIn (own tag past)) (Sure K tag more) (InPut more) k.version
               (λ n b h. elim h [ inl before ↦ inl before | inr got ↦ inr (still n b (s.got n b (own_got tag past n b got))) ])

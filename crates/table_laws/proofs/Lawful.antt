@@ -27,7 +27,7 @@ use Rattle.table_changes.specs.Conflicts.{Clash}
 use Rattle.table_changes.specs.Operations.{Operation, got_files}
 use Rattle.table_laws.specs.Commits.{files_in, meta_in, schema_in}
 use Rattle.table_laws.specs.Operations.{Scope, operation_of}
-use Rattle.table_laws.proofs.CommitEffects.{new_file, effect_of, Says, judge_of}
+use Rattle.table_laws.proofs.CommitEffects.{new_file, plan_of, Writes, judge_of}
 use Rattle.table_laws.specs.Runs.{or_first, listed_by, told_by, versions_put}
 use Rattle.table_laws.proofs.Sessions.{GotIn, StoredIn, LoadedTo}
 use Rattle.table_laws.specs.Refused.{IsUnknown}
@@ -54,6 +54,10 @@ IsLost past name body answer = (answer ≡ Taken) ⊎ ((other : List ℕ) × Got
 
 abbrev pub AllLost : Entries → Type 0
 AllLost past = (v : ℕ) (body : List ℕ) (answer : Answer) → PutIn past (commit_text v) body answer → IsLost past (commit_text v) body answer
+
+-- and each at a version below this one
+abbrev pub AllLostBelow : Entries → ℕ → Type 0
+AllLostBelow past version = (v : ℕ) (body : List ℕ) (answer : Answer) → v < version → PutIn past (commit_text v) body answer → IsLost past (commit_text v) body answer
 
 -- the newest entry found nothing under the name
 abbrev pub FoundMissing : Entries → List ℕ → Type 0
@@ -157,7 +161,7 @@ pub record IsOwn (tag : Tag) (start : ℕ) (added : List File) : Type 0 where
   pub is : added ≡ new_file tag start part ∷ more
 
 -- a statement committed a version: its put was answered as stored, or its commit was read back
-pub record ClaimsCommit (tag : Tag) (past : Entries) (version read attempts : ℕ) : Type 0 where
+pub record ClaimsCommit (K : List ℕ → List ℕ → Type 0) (tag : Tag) (past : Entries) (version read attempts : ℕ) : Type 0 where
   pub sum : read + attempts ≡ version
   pub above : 0 < attempts
   pub small : version < 2 ^ 64
@@ -169,7 +173,11 @@ pub record ClaimsCommit (tag : Tag) (past : Entries) (version read attempts : �
   pub added : List File
   pub own : IsOwn tag start added
   pub body : List ℕ
-  pub says : Says version body (effect_of op view (files_in s) added)
+  pub before : ℕ
+  pub next : version ≡ suc before
+  pub writes : Writes version body (plan_of tag start read op view (files_in s) added)
+  pub knows : Knows tag op start read s view added (Known K past) (StoredIn past) before
+  pub lost : AllLostBelow past version
   pub there : StoredIn past (commit_text version) body ⊎ GotIn past (commit_text version) body
 
 -- a statement loaded a version, and got all its files
@@ -193,7 +201,7 @@ pub record ClaimsCreated (statement : Statement) (past : Entries) : Type 0 where
 -- what a reply claims of all entries of its statement
 abbrev pub ClaimOf : (List ℕ → List ℕ → Type 0) → Tag → Statement → Entries → Reply → Type 0
 ClaimOf K tag statement past Created = ClaimsCreated statement past
-ClaimOf K tag statement past (Committed version read attempts checkpoint) = ClaimsCommit tag past version read attempts
+ClaimOf K tag statement past (Committed version read attempts checkpoint) = ClaimsCommit K tag past version read attempts
 ClaimOf K tag statement past (Rows version rows files_read files_live) = ClaimsRows K past version rows files_read files_live
 ClaimOf K tag statement past Killed = Unit {0}
 ClaimOf K tag statement past (Refused r) = ClaimsNothing past r
@@ -206,7 +214,7 @@ Claim K tag statement (Some reply) past = ClaimOf K tag statement past reply
 pub record IsCommitOf (K : List ℕ → List ℕ → Type 0) (tag : Tag) (statement : Statement) (past : Entries) (name body : List ℕ) : Type 0 where
   pub version : ℕ
   pub is : name ≡ commit_text (suc version)
-  pub small : suc version < 2 ^ 64
+  pub small : suc version < 2 ^ 60
   pub s : Snapshot
   pub op : Operation Scope
   pub is_op : operation_of (schema_in s) statement ≡ Some op
@@ -214,7 +222,7 @@ pub record IsCommitOf (K : List ℕ → List ℕ → Type 0) (tag : Tag) (statem
   pub read : ℕ
   pub view : File → List Row
   pub added : List File
-  pub says : Says (suc version) body (effect_of op view (files_in s) added)
+  pub writes : Writes (suc version) body (plan_of tag start read op view (files_in s) added)
   pub started : first_past told_by past ≡ Some start
   pub listed : first_past listed_by past ≡ Some read
   pub knows : Knows tag op start read s view added (Known K past) (StoredIn past) version

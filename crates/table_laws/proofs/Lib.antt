@@ -23,7 +23,9 @@ pub mod Effects
 pub mod Tries
 pub mod Readings
 pub mod Parts
+pub mod Once
 pub mod Serial
+pub mod Owners
 pub mod Ends
 pub mod Folded
 pub mod Refused

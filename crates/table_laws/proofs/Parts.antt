@@ -13,8 +13,10 @@ use Rattle.table_changes.specs.Rows.{Row}
 use Rattle.table_changes.specs.Table.{File, times, rows_in}
 use Rattle.table_changes.specs.Laws.{AllNew}
 use Rattle.table_laws.specs.History.{Put, rows_of}
-use Rattle.table_laws.specs.Laws.{FileReads, AllFilesRead}
+use Rattle.table_laws.specs.Laws.{AllAre, FileReads, AllFilesRead}
 use Rattle.table_laws.proofs.Lawful.{AllParts}
+use Rattle.table_laws.specs.Commits.{IsWholeFile}
+use Rattle.table_laws.proofs.Paths.{data_is_path}
 use Rattle.table_laws.proofs.Names.{same_file, same_part}
 use Rattle.table_laws.proofs.Shown.{InPut, put_with, some_same}
 use Rattle.table_laws.proofs.Effects.{file_is}
@@ -60,6 +62,11 @@ module _ (G : List ℕ → List ℕ → Type 0) (tag : Tag) (start : ℕ) (right
         subst (λ (g : File). bytes_eq g.path p ≡ false) (sym q.is) (differ (data_text tag start part) p (other part (omega arith) q.small)),
         parts_apart (suc part) fs h.1 h.4 p (λ i le. other i (omega (arith, le))),
       )
+
+  -- each is whole
+  pub parts_whole : (part : ℕ) (fs : List File) (rows : List Row) → AllParts G tag start part fs rows → AllAre IsWholeFile fs
+  parts_whole part [] rows h = tt
+  parts_whole part (f ∷ fs) rows h = let q = h.3 in (subst IsWholeFile (sym q.is) (data_is_path tag start part q.small), parts_whole (suc part) fs h.1 h.4)
 
   -- they are new where none of the parts is there
   pub parts_new : (part : ℕ) (fs : List File) (rows : List Row) → AllParts G tag start part fs rows → (live : List File) → ((i : ℕ) → part ≤ i → i < 2 ^ 32 → times (data_text tag start i) live ≡ 0) → AllNew fs live

@@ -18,6 +18,7 @@ use Rattle.op_types.specs.declared.refusal.Clash.{Clash}
 use Rattle.op_types.specs.declared.reply.Reply.{Reply}
 use Rattle.op_types.specs.declared.reply.Reply.TheVariants.{Refused}
 use Rattle.table_rules.specs.Names.{commit_text}
+use Rattle.table_rules.proofs.Names.{commits_differ}
 use Rattle.call_phases.specs.Phases.{Entries, OnGot, AtNow, AtList, AtGet, AtPutNew}
 use Rattle.call_phases.specs.Called.{called_get}
 use Rattle.call_phases.specs.Gets.{OnReading, AtGets}
@@ -38,7 +39,7 @@ use Rattle.statement_calls.specs.Judging.{CommitPlan, Bodies, Judges, verdict_of
 use Rattle.statement_calls.specs.Outcome.{IsOpen, Ends, Replies, refusal_of_attempt}
 use Rattle.table_laws.specs.Runs.{reply_in, or_first, listed_by, told_by}
 use Rattle.table_laws.specs.Refused.{IsUnknown}
-use Rattle.table_laws.proofs.Lawful.{Known, NoPut, IsLost, AllLost, AllInDoubt, ClaimsNothing, first_past, HasStart, ClaimOf, Claim, MayPut, LawfulBy, AllLawful}
+use Rattle.table_laws.proofs.Lawful.{Known, NoPut, IsLost, AllLost, AllLostBelow, AllInDoubt, ClaimsNothing, first_past, HasStart, ClaimOf, Claim, MayPut, LawfulBy, AllLawful}
 
 pub get_no_put : (name n b : List ℕ) → Get name ≡ PutNew n b → ⊥
 get_no_put name n b h = cc
@@ -66,6 +67,22 @@ still_lost e past n b a (inr other) = inr (other.0, inr other.1, other.2)
 
 pub lost_other : (e : JournalEntry) (past : Entries) → ((v : ℕ) (b : List ℕ) → e.call ≡ PutNew (commit_text v) b → ⊥) → AllLost past → AllLost (e ∷ past)
 lost_other e past apart lost v b a h = elim h [ inl now ↦ absurd (apart v b now.0) | inr before ↦ still_lost e past (commit_text v) b a (lost v b a before) ]
+
+-- all but the newest put are lost
+pub lost_below : (e : JournalEntry) (past : Entries) (version : ℕ) (body : List ℕ) (landed : ℕ) → landed ≡ version → version < 2 ^ 64 → e.call ≡ PutNew (commit_text version) body → AllLost past → AllLostBelow (e ∷ past) landed
+lost_below e past version body landed is small put lost v b a lt h = elim h [
+  | inl now ↦
+      let names = same_put _ _ _ _ (sym put ∙ now.0) in
+      let same = commits_differ version v small (omega (arith, is, small, lt)) names.0 in
+      absurd (omega (arith, is, lt, same))
+  | inr before ↦ still_lost e past (commit_text v) b a (lost v b a before)
+]
+
+pub still_below : (f : JournalEntry) (past : Entries) (name : List ℕ) → f.call ≡ Get name → (version : ℕ) → AllLostBelow past version → AllLostBelow (f ∷ past) version
+still_below f past name is version lost v b a lt h = elim h [
+  | inl now ↦ absurd (get_no_put name (commit_text v) b (sym is ∙ now.0))
+  | inr before ↦ still_lost f past (commit_text v) b a (lost v b a lt before)
+]
 
 pub lost_taken : (e : JournalEntry) (past : Entries) → e.answer ≡ Taken → AllLost past → AllLost (e ∷ past)
 lost_taken e past was_taken lost v b a h = elim h [ inl now ↦ inl (sym now.1 ∙ was_taken) | inr before ↦ still_lost e past (commit_text v) b a (lost v b a before) ]
@@ -248,13 +265,13 @@ module _ (K : List ℕ → List ℕ → Type 0) (tag : Tag) (statement : Stateme
   module _ (plan : CommitPlan) (terms : Terms) (landed : Landed → Reply) (P : ℕ → Entries → Type 0)
       (all_lost : (lost : ℕ) (past : Entries) → P lost past → AllLost past)
       (clocked : (lost : ℕ) (past : Entries) (e : JournalEntry) → e.call ≡ Now → P lost past → P lost (e ∷ past))
-      (puts : (lost : ℕ) (past : Entries) → terms.first + lost < 2 ^ 64 → P lost past → MayPut K tag statement past (commit_text (terms.first + lost)) plan.text)
+      (puts : (lost : ℕ) (past : Entries) → terms.first + lost < 2 ^ 60 → P lost past → MayPut K tag statement past (commit_text (terms.first + lost)) plan.text)
       (loses : (lost : ℕ) (past : Entries) (e f : JournalEntry) (body winner : List ℕ) → e.call ≡ PutNew (commit_text (terms.first + lost)) plan.text → f.call ≡ Get (commit_text (terms.first + lost)) → f.answer ≡ Body body
-      → (e.answer ≡ Taken) ⊎ (body ≡ plan.text → ⊥) → verdict_of plan body ≡ verdict.Clear winner → terms.first + lost < 2 ^ 64 → P lost past → P (suc lost) (f ∷ e ∷ past))
+      → (e.answer ≡ Taken) ⊎ (body ≡ plan.text → ⊥) → verdict_of plan body ≡ verdict.Clear winner → terms.first + lost < 2 ^ 60 → P lost past → P (suc lost) (f ∷ e ∷ past))
       (wins : (lost : ℕ) (past : Entries) (e : JournalEntry) (l : Landed) → e.call ≡ PutNew (commit_text (terms.first + lost)) plan.text → e.answer ≡ Stored → l.version ≡ terms.first + lost → l.attempts ≡ suc lost
-      → terms.first + lost < 2 ^ 64 → P lost past → ClaimOf K tag statement (e ∷ past) (landed l))
+      → terms.first + lost < 2 ^ 60 → P lost past → ClaimOf K tag statement (e ∷ past) (landed l))
       (finds : (lost : ℕ) (past : Entries) (e f : JournalEntry) (l : Landed) → e.call ≡ PutNew (commit_text (terms.first + lost)) plan.text → e.answer ≡ Fault → f.call ≡ Get (commit_text (terms.first + lost)) → f.answer ≡ Body plan.text → l.version ≡ terms.first + lost → l.attempts ≡ suc lost
-      → terms.first + lost < 2 ^ 64 → P lost past → ClaimOf K tag statement (f ∷ e ∷ past) (landed l)) where
+      → terms.first + lost < 2 ^ 60 → P lost past → ClaimOf K tag statement (f ∷ e ∷ past) (landed l)) where
     abbrev open_end : CommitPlan → Type 0
     open_end p = IsOpen out kept
 
@@ -272,7 +289,7 @@ module _ (K : List ℕ → List ℕ → Type 0) (tag : Tag) (statement : Stateme
         by (verdict.Clear winner) is on = k winner (sym is) (subst (λ (i : CommitPlan). again i es) (h.2).0 on)
         by (verdict.Clash c) is on = ended_lost (refusal.Conflict version c) past es lost on
 
-    at_commit_put : (lost : ℕ) (l : Landed) (again : List ℕ → CommitPlan → Entries → Type 0) (past es : Entries) → l.version ≡ terms.first + lost → l.attempts ≡ suc lost → terms.first + lost < 2 ^ 64 → P lost past
+    at_commit_put : (lost : ℕ) (l : Landed) (again : List ℕ → CommitPlan → Entries → Type 0) (past es : Entries) → l.version ≡ terms.first + lost → l.attempts ≡ suc lost → terms.first + lost < 2 ^ 60 → P lost past
         → AtCommitPut Bodies Judges terms open_end fails lands (terms.first + lost) plan plan.text (lands plan l) again es
         → ((body : List ℕ) (past rest : Entries) → P (suc lost) past → again body plan rest → Lawful past rest) → Lawful past es
     at_commit_put lost l again past es version attempts small p h k =
@@ -299,7 +316,7 @@ module _ (K : List ℕ → List ℕ → Type 0) (tag : Tag) (statement : Stateme
     abbrev AtText : ℕ → Landed → (List ℕ → CommitPlan → Entries → Type 0) → Entries → CommitPlan → List ℕ → Type 0
     AtText lost l again es i text = AtCommitPut Bodies Judges terms open_end fails lands (terms.first + lost) i text (lands i l) again es
 
-    puts_text : (lost now : ℕ) (winners : List (List ℕ)) (again : List ℕ → CommitPlan → Entries → Type 0) (past es : Entries) → terms.first + lost < 2 ^ 64 → P lost past
+    puts_text : (lost now : ℕ) (winners : List (List ℕ)) (again : List ℕ → CommitPlan → Entries → Type 0) (past es : Entries) → terms.first + lost < 2 ^ 60 → P lost past
         → Puts Bodies Judges terms open_end fails lands (terms.first + lost) now plan (λ new. lands new (record { version = terms.first + lost; attempts = suc lost; now = now; winners = winners })) again es
         → ((body : List ℕ) (past rest : Entries) → P (suc lost) past → again body plan rest → Lawful past rest) → Lawful past es
     puts_text lost now winners again past es small p h k = by h.0 (h.2).1 h.3
@@ -312,7 +329,7 @@ module _ (K : List ℕ → List ℕ → Type 0) (tag : Tag) (statement : Stateme
         by (Err body_fault.NoMemory) is on = ended_lost refusal.NoMemory past es (all_lost lost past p) on
         by (Err (body_fault.TooLarge bytes)) is on = absurd is
 
-    pub at_attempt : (left lost : ℕ) (winners : List (List ℕ)) (past es : Entries) → terms.first + (lost + left) < 2 ^ 64 → P lost past
+    pub at_attempt : (left lost : ℕ) (winners : List (List ℕ)) (past es : Entries) → terms.first + (lost + left) < 2 ^ 60 → P lost past
         → AtAttempt Bodies Judges terms open_end fails lands left lost winners plan es → Lawful past es
     at_attempt zero lost winners past es small p h = ended_lost (refusal.TooManyAttempts lost) past es (all_lost lost past p) h
     at_attempt (suc left) lost winners past es small p h =

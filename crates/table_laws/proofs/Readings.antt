@@ -1,7 +1,8 @@
 -- Commits and files of versions, by what was put and read of them.
-use Rattle.std.proofs.Common.{◌≡◌, ℕ, zero, suc, Bool, true, false, List, [], ◌∷◌, ◌++◌, map, length, refl, sym, ◌∙◌, ap, subst, arith}
+use Rattle.std.proofs.Common.{◌≡◌, ◌≤◌, ℕ, zero, suc, Bool, true, false, List, [], ◌∷◌, ◌++◌, map, length, refl, sym, ◌∙◌, ap, subst, arith}
 use Rattle.std.specs.Prelude.{Option, Some, None, IsSome, if◌then◌else◌, option_map, option_and_then}
 use Rattle.std.specs.Str.{bytes_eq}
+use Rattle.std.specs.List.{filter}
 use Rattle.std.specs.Ordering.{is_lt, nat_cmp}
 use Rattle.std.specs.Cmp.Lexicographic.{slice_cmp}
 use Rattle.std.proofs.lemmas.Slice.Eq.{bytes_eq-Decides}
@@ -16,8 +17,8 @@ use Rattle.table_changes.specs.Rows.{Row}
 use Rattle.table_changes.specs.Table.{File, MetaData, FileLine, Removes, Adds, without_path, placed, reconciled, times, rows_in, adds_lines, lines_of}
 use Rattle.table_laws.specs.Commits.{file_of}
 use Rattle.table_laws.specs.History.{Put, put_under, body_of, or_nothing, commit_at, rows_of}
-use Rattle.table_laws.specs.Laws.{FileReads, AllFilesRead}
-use Rattle.table_changes.proofs.Files.{is_one, times-placed, times-without_other, times-without_same}
+use Rattle.table_laws.specs.Laws.{AllAre}
+use Rattle.table_changes.proofs.Files.{is_one, times-cons, times-placed, times-without_other, times-without_same}
 use Rattle.table_laws.proofs.Lawful.{AllScanned}
 use Rattle.table_laws.proofs.Sessions.{LoadedTo}
 use Rattle.table_laws.proofs.Shown.{InPut}
@@ -118,27 +119,46 @@ pub first_loaded : (G : List ℕ → List ℕ → Type 0) (n : ℕ) (s : Snapsho
 first_loaded G zero s h = (h.1, h.4, h.2, h.5)
 first_loaded G (suc n) s h = first_loaded G n h.0 h.3
 
-without_read : (ps : List Put) (path : List ℕ) (fs : List File) → AllFilesRead ps fs → AllFilesRead ps (without_path fs path)
-without_read ps path [] h = tt
-without_read ps path (a ∷ fs) h = by (bytes_eq a.path path) (without_read ps path fs h.1)
+-- what all files are stays so after a commit that adds some that are so
+module _ (P : File → Type 0) where
+  without_all : (path : List ℕ) (fs : List File) → AllAre P fs → AllAre P (without_path fs path)
+  without_all path [] h = tt
+  without_all path (a ∷ fs) h = by (bytes_eq a.path path) (without_all path fs h.1)
+    where
+      by : (b : Bool) → AllAre P (without_path fs path) → AllAre P (if b then without_path fs path else a ∷ without_path fs path)
+      by true rest = rest
+      by false rest = (h.0, rest)
+
+  placed_all : (a : File) (fs : List File) → P a → AllAre P fs → AllAre P (placed a fs)
+  placed_all a [] one h = (one, tt)
+  placed_all a (b ∷ fs) one h = by (is_lt (slice_cmp nat_cmp b.path a.path)) (placed_all a fs one h.1)
+    where
+      by : (c : Bool) → AllAre P (placed a fs) → AllAre P (if c then b ∷ placed a fs else a ∷ b ∷ fs)
+      by true rest = (h.0, rest)
+      by false rest = (one, h)
+
+  adds_all : (changes : Bool) (added fs : List File) → AllAre P fs → AllAre P added → AllAre P (reconciled fs (adds_lines changes added))
+  adds_all changes [] fs h new = h
+  adds_all changes (a ∷ added) fs h new = adds_all changes added (placed a (without_path fs a.path)) (placed_all a (without_path fs a.path) new.0 (without_all a.path fs h)) new.1
+
+  pub lines_all : (stamp : ℕ) (changes : Bool) (gone added fs : List File) → AllAre P fs → AllAre P added → AllAre P (reconciled fs (lines_of stamp changes gone added))
+  lines_all stamp changes [] added fs h new = adds_all changes added fs h new
+  lines_all stamp changes (g ∷ gone) added fs h new = lines_all stamp changes gone added (without_path fs g.path) (without_all g.path fs h) new
+
+  -- and so are those of them that are picked
+  pub picked_are : (t : File → Bool) (fs : List File) → AllAre P fs → AllAre P (filter t fs)
+  picked_are t [] h = tt
+  picked_are t (a ∷ fs) h = by (t a) (picked_are t fs h.1)
+    where
+      by : (b : Bool) → AllAre P (filter t fs) → AllAre P (if b then a ∷ filter t fs else filter t fs)
+      by true rest = (h.0, rest)
+      by false rest = rest
+
+-- a path isn't there oftener among files that are picked
+pub times-picked : (p : List ℕ) (t : File → Bool) (fs : List File) → times p (filter t fs) ≤ times p fs
+times-picked p t [] = omega arith
+times-picked p t (a ∷ fs) = by (t a) (times-picked p t fs)
   where
-    by : (b : Bool) → AllFilesRead ps (without_path fs path) → AllFilesRead ps (if b then without_path fs path else a ∷ without_path fs path)
-    by true rest = rest
-    by false rest = (h.0, rest)
-
-placed_read : (ps : List Put) (a : File) (fs : List File) → FileReads ps a.name → AllFilesRead ps fs → AllFilesRead ps (placed a fs)
-placed_read ps a [] one h = (one, tt)
-placed_read ps a (b ∷ fs) one h = by (is_lt (slice_cmp nat_cmp b.path a.path)) (placed_read ps a fs one h.1)
-  where
-    by : (c : Bool) → AllFilesRead ps (placed a fs) → AllFilesRead ps (if c then b ∷ placed a fs else a ∷ b ∷ fs)
-    by true rest = (h.0, rest)
-    by false rest = (one, h)
-
--- files that read, after a commit that adds some that read
-adds_read : (ps : List Put) (changes : Bool) (added fs : List File) → AllFilesRead ps fs → AllFilesRead ps added → AllFilesRead ps (reconciled fs (adds_lines changes added))
-adds_read ps changes [] fs h new = h
-adds_read ps changes (a ∷ added) fs h new = adds_read ps changes added (placed a (without_path fs a.path)) (placed_read ps a (without_path fs a.path) new.0 (without_read ps a.path fs h)) new.1
-
-pub lines_read : (ps : List Put) (stamp : ℕ) (changes : Bool) (gone added fs : List File) → AllFilesRead ps fs → AllFilesRead ps added → AllFilesRead ps (reconciled fs (lines_of stamp changes gone added))
-lines_read ps stamp changes [] added fs h new = adds_read ps changes added fs h new
-lines_read ps stamp changes (g ∷ gone) added fs h new = lines_read ps stamp changes gone added (without_path fs g.path) (without_read ps g.path fs h) new
+    by : (b : Bool) → times p (filter t fs) ≤ times p fs → times p (if b then a ∷ filter t fs else filter t fs) ≤ times p (a ∷ fs)
+    by true rest = let one = times-cons p a (filter t fs) in let all = times-cons p a fs in omega arith
+    by false rest = let all = times-cons p a fs in omega arith

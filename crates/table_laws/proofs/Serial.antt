@@ -1,6 +1,6 @@
 -- Each committed version follows from the one before.
 use Rattle.std.proofs.Common.{◌≡◌, ◌⊎◌, inl, inr, ℕ, zero, suc, ◌+◌, ◌-◌, ◌≤◌, ◌<◌, ◌^◌, not, List, [], ◌∷◌, length, refl, sym, ◌∙◌, ap, subst, arith}
-use Rattle.std.specs.Prelude.{Option, Some, None, option_map, option_and_then}
+use Rattle.std.specs.Prelude.{Option, Some, None, option_and_then}
 use Rattle.edge_api.specs.declared.call.Tag.{Tag}
 use Rattle.edge_api.specs.Journal.{Objects}
 use Rattle.row_base.specs.Sorting.{Sorts}
@@ -9,37 +9,35 @@ use Rattle.op_types.specs.declared.statement.Statement.{Statement}
 use Rattle.op_types.specs.declared.reply.Reply.{Reply}
 use Rattle.table_rules.specs.Names.{commit_text, data_text}
 use Rattle.table_rules.specs.Told.{IsTag}
-use Rattle.line_texts.specs.Texts.{columns_of_text}
-use Rattle.line_texts.proofs.Laws.{columns_read_back}
-use Rattle.snapshot_replay.specs.Table.{table_commit}
+use Rattle.snapshot_replay.specs.Table.{Snapshot}
 use Rattle.snapshot_replay.specs.Table.{Commit as LogCommit, paths_of as said_paths}
 use Rattle.call_phases.specs.Phases.{Entries}
 use Rattle.statement_calls.specs.Texts.{read_commit}
-use Rattle.statement_calls.specs.Answered.{names_of, rows_of_files}
+use Rattle.statement_calls.specs.Answered.{rows_of_files}
 use Rattle.actor_core.specs.Entries.{own}
 use Rattle.table_changes.specs.Rows.{Row}
 use Rattle.table_changes.specs.Table.{File, MetaData, FileLine, Commit, newer, is_blind, reconciled, times, rows_in}
 use Rattle.table_changes.specs.Conflicts.{first_clash}
 use Rattle.table_changes.specs.Operations.{Operation, IsSound, got_files, taken_files, reads_of}
 use Rattle.table_changes.specs.Laws.{AllHold, Landed, Appends}
+use Rattle.table_changes.proofs.Files.{live_once}
 use Rattle.table_changes.proofs.Winners.{each_version_is_serial}
-use Rattle.table_laws.specs.Commits.{changes_of, schema_of, files_in, meta_in}
+use Rattle.table_laws.specs.Commits.{IsWholeFile, schema_of, files_in, meta_in}
 use Rattle.table_laws.specs.Operations.{Scope, passes, may, operation_of}
 use Rattle.table_laws.specs.History.{Put, put_under, body_of, commit_at, live_at, meta_at, schema_at, level_for, rows_of, rows_at, IsCommitted}
 use Rattle.table_laws.specs.Runs.{listed_by, version_read}
-use Rattle.table_laws.specs.Laws.{schema_read, operation_by, operation_at, inserted_by, appended, Step, versions_from, IsWonBefore, Lands, HasCommitted, HasRead, MakesTable, ReadsAt, AllFilesRead}
-use Rattle.table_laws.proofs.Sessions.{GotIn, StoredIn}
-use Rattle.table_laws.proofs.CommitEffects.{effect_of, Says, judge_of}
+use Rattle.table_laws.specs.Laws.{schema_read, operation_by, operation_at, inserted_by, appended, Step, versions_from, IsWonBefore, Lands, HasRead, ReadsAt, AllAre, FileReads, AllFilesRead}
+use Rattle.table_laws.proofs.CommitEffects.{plan_of, effect_of, Says, IsWhole, judge_of}
 use Rattle.table_laws.proofs.Sound.{each_operation_is_sound, says_truly}
-use Rattle.table_laws.proofs.Lawful.{Known, AllGot, Knows, IsOwn, ClaimsCommit, ClaimsRows}
+use Rattle.table_laws.proofs.Lawful.{Known, AllGot, Knows, ClaimsRows}
 use Rattle.table_laws.proofs.Known.{loaded_more, knows_more, scanned_more}
 use Rattle.table_laws.proofs.Tries.{put_in_order, put_under-front}
 use Rattle.table_laws.proofs.Names.{same_file}
 use Rattle.table_laws.proofs.Shown.{InPut, Sure, backwards, given_is, own_got, put_of_body, some_same}
-use Rattle.table_laws.proofs.Standing.{Stands, Committed, no_later}
+use Rattle.table_laws.proofs.Standing.{Stands, Committed}
 use Rattle.table_laws.proofs.Effects.{commit_is, said_is, loaded_files, loaded_meta, same_written, same_effect, same_judge}
-use Rattle.table_laws.proofs.Parts.{parts_rows, parts_read, parts_apart, parts_new, parts_owner}
-use Rattle.table_laws.proofs.Readings.{some_put, some_of_body, is_some, none_more, empty_first, same_commit, first_added, first_path, added_is, scanned_rows, scanned_long, length-paths, length-files, first_loaded, lines_read}
+use Rattle.table_laws.proofs.Parts.{parts_rows, parts_read, parts_apart, parts_whole, parts_new}
+use Rattle.table_laws.proofs.Readings.{some_put, some_of_body, is_some, none_more, empty_first, scanned_rows, scanned_long, length-paths, length-files, first_loaded, lines_all, picked_are, times-picked}
 
 module _ (K : Tag → List ℕ → List ℕ → Type 0) (script : Tag → Option Statement) (replies : Tag → Option Reply) (tags : (tag : Tag) (statement : Statement) → script tag ≡ Some statement → IsTag tag)
     (past : Entries) (os : Objects) (ps : List Put) (clock : ℕ) (s : Stands K script replies tags past os ps clock) (known : (t : Tag) (n b : List ℕ) → K t n b → InPut ps n b) where
@@ -47,10 +45,14 @@ module _ (K : Tag → List ℕ → List ℕ → Type 0) (script : Tag → Option
   sure t n b (inl before) = known t n b before
   sure t n b (inr put) = put
 
-  knows : (v : ℕ) (p : Put) (k : Committed K script replies tags past ps v p) → Knows p.tag k.op k.start k.read k.s k.view k.added (InPut ps) (InPut ps) v
+  pub shown : (t : Tag) (n b : List ℕ) → Known (K t) (own t past) n b → InPut ps n b
+  shown t n b (inl before) = known t n b before
+  shown t n b (inr got) = s.got n b (own_got t past n b got)
+
+  pub knows : (v : ℕ) (p : Put) (k : Committed K script replies tags past ps v p) → Knows p.tag k.op k.start k.read k.s k.view k.added (InPut ps) (InPut ps) v
   knows v p k = knows_more p.tag k.op k.start k.read k.s k.view k.added (Sure K p.tag ps) (InPut ps) (InPut ps) (InPut ps) v (sure p.tag) (λ n b h. h) k.knows
 
-  one_below : (n : ℕ) → suc n < 2 ^ 64 → IsCommitted ps (suc n) → IsCommitted ps n
+  pub one_below : (n : ℕ) → suc n < 2 ^ 64 → IsCommitted ps (suc n) → IsCommitted ps n
   one_below n small is =
       let two = some_put (put_under ps (commit_text (suc n))) is in
       let k = s.commits n two.0 small two.1 in
@@ -92,10 +94,10 @@ module _ (K : Tag → List ℕ → List ℕ → Type 0) (script : Tag → Option
     abbrev rows : File → List Row
     rows = rows_of ps (meta_at ps k.read)
 
-    -- what the commit says
-    says : commit_at ps (suc v) ≡ effect_of k.op rows (live_at ps k.read) k.added
-    says =
-        said_is ps (suc v) p.body (effect_of k.op k.view (files_in k.s) k.added) (ap body_of is) k.says
+    -- what the commit says, where its text says its plan
+    says_if : Says (suc v) p.body (effect_of k.op k.view (files_in k.s) k.added) → commit_at ps (suc v) ≡ effect_of k.op rows (live_at ps k.read) k.added
+    says_if reads =
+        said_is ps (suc v) p.body (effect_of k.op k.view (files_in k.s) k.added) (ap body_of is) reads
         ∙ ap (λ (fs : List File). effect_of k.op k.view fs k.added) base_is
         ∙ same_effect ps (meta_at ps k.read) k.op sound k.view (live_at ps k.read) files k.added
 
@@ -111,18 +113,81 @@ module _ (K : Tag → List ℕ → List ℕ → Type 0) (script : Tag → Option
     right : IsTag p.tag
     right = tags p.tag k.statement k.is_statement
 
-  -- a file isn't there before its statement's commit
-  fresh : (n : ℕ) → n < 2 ^ 64 → IsCommitted ps n → (tag : Tag) (start part : ℕ) → IsTag tag → part < 2 ^ 32 → ((w : ℕ) (q : Put) → w < n → put_under ps (commit_text (suc w)) ≡ Some q → q.tag ≡ tag → ⊥) → times (data_text tag start part) (live_at ps n) ≡ 0
-  fresh zero small is tag start part right_tag least none = subst (λ (ls : List FileLine). times (data_text tag start part) (reconciled [] ls) ≡ 0) (sym (empty_first ps)) refl
-  fresh (suc n) small is tag start part right_tag least none =
+  -- the text of version v + 1's commit says its plan
+  abbrev pub SaysPlan : ℕ → Type 0
+  SaysPlan v = (p : Put) (small : suc v < 2 ^ 64) (is : put_under ps (commit_text (suc v)) ≡ Some p) → (let k = s.commits v p small is in Says (suc v) p.body (effect_of k.op k.view (files_in k.s) k.added))
+
+  abbrev pub AllSay : ℕ → Type 0
+  AllSay n = (w : ℕ) → w < n → SaysPlan w
+
+  -- a statement has committed none of the versions 1 to n
+  abbrev pub HasNone : ℕ → Tag → Type 0
+  HasNone n tag = (w : ℕ) (q : Put) → w < n → put_under ps (commit_text (suc w)) ≡ Some q → q.tag ≡ tag → ⊥
+
+  -- a file isn't there before its statement's commit, over commits that say their plans
+  pub fresh : (n : ℕ) → AllSay n → n < 2 ^ 64 → IsCommitted ps n → (tag : Tag) (start part : ℕ) → IsTag tag → part < 2 ^ 32 → HasNone n tag → times (data_text tag start part) (live_at ps n) ≡ 0
+  fresh zero all small is tag start part right_tag least none = subst (λ (ls : List FileLine). times (data_text tag start part) (reconciled [] ls) ≡ 0) (sym (empty_first ps)) refl
+  fresh (suc n) all small is tag start part right_tag least none =
       let two = some_put (put_under ps (commit_text (suc n))) is in
       let k = s.commits n two.0 small two.1 in
-      let rest = fresh n (omega arith) (one_below n small is) tag start part right_tag least (λ w q lt. none w q (omega arith)) in
+      let rest = fresh n (λ w lt. all w (omega (arith, lt))) (omega arith) (one_below n small is) tag start part right_tag least (λ w q lt. none w q (omega arith)) in
       let whose = right n two.0 small two.1 in
-      subst (λ (t : Commit). times (data_text tag start part) (reconciled (live_at ps n) t.lines) ≡ 0) (sym (says n two.0 small two.1))
+      subst (λ (t : Commit). times (data_text tag start part) (reconciled (live_at ps n) t.lines) ≡ 0) (sym (says_if n two.0 small two.1 (all n (omega arith) two.0 small two.1)))
       (none_more (data_text tag start part) 0 (not k.op.moves) (taken_files (rows_of ps (meta_at ps k.read)) k.op (live_at ps k.read)) k.added (live_at ps n) rest
       (parts_apart (InPut ps) two.0.tag k.start whose 0 k.added (knows n two.0 k).new (knows n two.0 k).parts (data_text tag start part)
       (λ i le small_part same. none n two.0 (omega arith) two.1 (same_file two.0.tag tag k.start start i part whose right_tag small_part least same))))
+
+  -- each file that is there is whole: it was a part of its statement
+  live_whole : (n : ℕ) → AllSay n → n < 2 ^ 64 → IsCommitted ps n → AllAre IsWholeFile (live_at ps n)
+  live_whole zero all small is = subst (λ (ls : List FileLine). AllAre IsWholeFile (reconciled [] ls)) (sym (empty_first ps)) tt
+  live_whole (suc n) all small is =
+      let two = some_put (put_under ps (commit_text (suc n))) is in
+      let k = s.commits n two.0 small two.1 in
+      let rest = live_whole n (λ w lt. all w (omega (arith, lt))) (omega arith) (one_below n small is) in
+      subst (λ (t : Commit). AllAre IsWholeFile (reconciled (live_at ps n) t.lines)) (sym (says_if n two.0 small two.1 (all n (omega arith) two.0 small two.1)))
+      (lines_all IsWholeFile 0 (not k.op.moves) (taken_files (rows_of ps (meta_at ps k.read)) k.op (live_at ps k.read)) k.added (live_at ps n) rest
+      (parts_whole (InPut ps) two.0.tag k.start (right n two.0 small two.1) 0 k.added (knows n two.0 k).new (knows n two.0 k).parts))
+
+  -- so a plan over them is whole, if its statement has committed none of them: what it takes out was live, and what it adds wasn't
+  pub plan_whole : (v : ℕ) → AllSay v → v < 2 ^ 64 → IsCommitted ps v → (tag : Tag) → IsTag tag → (start read : ℕ) (op : Operation Scope) (loaded : Snapshot) (view : File → List Row) (added : List File)
+      → Knows tag op start read loaded view added (InPut ps) (InPut ps) v → HasNone v tag → IsWhole (plan_of tag start read op view (files_in loaded) added)
+  plan_whole v all small is tag whose start read op loaded view added k none =
+      let le = k.below in
+      let live = live_at ps read in
+      let least : read < 2 ^ 64 = omega (arith, le, small) in
+      let there = below v small is read le in
+      let upto : AllSay read = λ w lt. all w (omega (arith, lt, le)) in
+      subst (λ (fs : List File). IsWhole (plan_of tag start read op view fs added)) (sym (loaded_files ps read loaded k.loaded)) (record {
+        removed = picked_are IsWholeFile (op.takes view live) live (live_whole read upto least there);
+        added = parts_whole (InPut ps) tag start whose 0 added k.new k.parts;
+        once = λ p. let most = live_once (commit_at ps) read p in let fewer = times-picked p (op.takes view live) live in omega (arith, most, fewer);
+        new = parts_new (InPut ps) tag start whose 0 added k.new k.parts (taken_files view op live) (λ i from small_part.
+            let none_live = fresh read upto least there tag start i whose small_part (λ w q lt. none w q (omega (arith, lt, le))) in
+            let fewer = times-picked (data_text tag start i) (op.takes view live) live in
+            omega (arith, none_live, fewer));
+      })
+
+  -- each commit says its plan, by those below it
+  says_plan : (v : ℕ) → AllSay v → SaysPlan v
+  says_plan v all p small is =
+      let k = s.commits v p small is in
+      k.writes.back (plan_whole v all (omega (arith, small)) (one_below v small (is_some (put_under ps (commit_text (suc v))) p is)) p.tag (right v p small is) k.start k.read k.op k.s k.view k.added (knows v p k)
+      (λ w q lt there same. let e = s.single w v q p (omega (arith, lt, small)) small there is same in absurd (omega (arith, e, lt))))
+
+  here_or : (n v : ℕ) → v < suc n → (n ≡ v) ⊎ (v < n)
+  here_or n v lt = grind arith
+
+  pub all_say : (n : ℕ) → AllSay n
+  all_say zero v lt = absurd (omega (arith, lt))
+  all_say (suc n) v lt = elim (here_or n v lt) [ inl same ↦ subst SaysPlan same (says_plan n (all_say n)) | inr less ↦ all_say n v less ]
+
+  pub reads : (v : ℕ) → SaysPlan v
+  reads v = all_say (suc v) v (omega arith)
+
+  -- what the commit says
+  says : (v : ℕ) (p : Put) (small : suc v < 2 ^ 64) (is : put_under ps (commit_text (suc v)) ≡ Some p)
+      → (let k = s.commits v p small is in commit_at ps (suc v) ≡ effect_of k.op (rows_of ps (meta_at ps k.read)) (live_at ps k.read) k.added)
+  says v p small is = says_if v p small is (reads v p small is)
 
   -- no version between clashes
   cleared : (v : ℕ) (p : Put) (small : suc v < 2 ^ 64) (is : put_under ps (commit_text (suc v)) ≡ Some p) (n : ℕ) → (s.commits v p small is).read ≤ n → n < v
@@ -131,10 +196,10 @@ module _ (K : Tag → List ℕ → List ℕ → Type 0) (script : Tag → Option
       let k = s.commits v p small is in
       let q = (knows v p k).clear n from to in
       let there = some_put (put_under ps (commit_text (suc n))) (some_of_body (put_under ps (commit_text (suc n))) q.0 q.1) in
-      let c = s.commits n there.0 (omega arith) there.1 in
+      let said = reads n there.0 (omega arith) there.1 in
       let same : there.0.body ≡ q.0 = some_same there.0.body q.0 (sym (ap body_of there.1) ∙ q.1) in
-      let t : LogCommit = (c.says).0 in
-      let reads : read_commit (suc n) q.0 ≡ Some t = ap (read_commit (suc n)) (sym same) ∙ (c.says).1 in
+      let t : LogCommit = said.0 in
+      let reads : read_commit (suc n) q.0 ≡ Some t = ap (read_commit (suc n)) (sym same) ∙ said.1 in
       let seen = meta_at ps k.read in
       ap (λ (said : Commit). first_clash (reads_of passes may (level_for ps k.op k.read) None (rows_of ps seen) k.op (live_at ps k.read)) said) (commit_is ps (suc n) q.0 t q.1 reads)
       ∙ sym (same_judge ps seen k.op (sound v p small is) k.view (live_at ps k.read) (files v p small is) (meta_at ps k.read) t)
@@ -163,7 +228,7 @@ module _ (K : Tag → List ℕ → List ℕ → Type 0) (script : Tag → Option
     lines = ap (λ (t : Commit). t.lines) (says v p small is);
     blind = ap (λ (t : Commit). is_blind t) (says v p small is);
     fresh = parts_new (InPut ps) p.tag (s.commits v p small is).start (right v p small is) 0 (s.commits v p small is).added (knows v p (s.commits v p small is)).new (knows v p (s.commits v p small is)).parts (live_at ps v)
-        (λ i le least. fresh v (omega arith) (one_below v small (is_some (put_under ps (commit_text (suc v))) p is)) p.tag (s.commits v p small is).start i (right v p small is) least
+        (λ i le least. fresh v (all_say v) (omega arith) (one_below v small (is_some (put_under ps (commit_text (suc v))) p is)) p.tag (s.commits v p small is).start i (right v p small is) least
         (λ w q lt there same. let e = s.single w v q p (omega arith) small there is same in let lt' : w < v = lt in absurd (omega arith)));
     holds = all_hold v (s.commits v p small is).added;
     txn = None;
@@ -171,18 +236,6 @@ module _ (K : Tag → List ℕ → List ℕ → Type 0) (script : Tag → Option
     above = λ app n set. cc;
     clear = cleared v p small is;
   }
-
-  -- what a statement makes that makes a table
-  pub makes_table : (p : Put) → put_under ps (commit_text 0) ≡ Some p → MakesTable script p
-  makes_table p is =
-      let made = s.table p is in
-      let names = names_of (made.0).columns in
-      record {
-        spec = made.0;
-        is_statement = made.1;
-        text = made.2;
-        reads = λ words. ap (λ (text : List ℕ). option_map table_commit (columns_of_text text)) made.2 ∙ ap (option_map table_commit) (columns_read_back names words);
-      }
 
   -- the commits up to a version above 0 read
   pub commits_read : (v k : ℕ) → suc v < 2 ^ 64 → IsCommitted ps (suc v) → k ≤ suc v → ReadsAt ps k
@@ -195,8 +248,8 @@ module _ (K : Tag → List ℕ → List ℕ → Type 0) (script : Tag → Option
       (first.0, first.1, loaded.2, ap (read_commit 0) (sym same) ∙ loaded.3)
   commits_read v (suc k) small is le =
       let two = some_put (put_under ps (commit_text (suc k))) (below (suc v) small is (suc k) le) in
-      let c = s.commits k two.0 (omega (arith, small, le)) two.1 in
-      (two.0, two.1, (c.says).0, (c.says).1)
+      let said = reads k two.0 (omega (arith, small, le)) two.1 in
+      (two.0, two.1, said.0, said.1)
 
   -- the live files of a version read
   pub files_read : (v : ℕ) → v < 2 ^ 64 → IsCommitted ps v → AllFilesRead ps (live_at ps v)
@@ -206,7 +259,7 @@ module _ (K : Tag → List ℕ → List ℕ → Type 0) (script : Tag → Option
       let c = s.commits v two.0 small two.1 in
       let reads = parts_read ps two.0.tag c.start 0 c.added (knows v two.0 c).new (knows v two.0 c).parts in
       subst (λ (t : Commit). AllFilesRead ps (reconciled (live_at ps v) t.lines)) (sym (says v two.0 small two.1))
-      (lines_read ps 0 (not c.op.moves) (taken_files (rows_of ps (meta_at ps c.read)) c.op (live_at ps c.read)) c.added (live_at ps v) (files_read v (omega (arith, small)) (one_below v small is)) reads)
+      (lines_all (λ a. FileReads ps a.name) 0 (not c.op.moves) (taken_files (rows_of ps (meta_at ps c.read)) c.op (live_at ps c.read)) c.added (live_at ps v) (files_read v (omega (arith, small)) (one_below v small is)) reads)
 
   commit_put : (n : ℕ) → n < 2 ^ 64 → IsCommitted ps n → (k : ℕ) → k < n → (p : Put) × (put_under ps (commit_text (suc k)) ≡ Some p)
   commit_put n small is k lt = some_put (put_under ps (commit_text (suc k))) (below n small is (suc k) (omega arith))
@@ -251,6 +304,7 @@ module _ (K : Tag → List ℕ → List ℕ → Type 0) (script : Tag → Option
         let lt : v < suc v = omega arith in
         let two = commit_put (suc v) small is v lt in
         let k = s.commits v two.0 (within (suc v) v small lt) two.1 in
+        let said = reads v two.0 (within (suc v) v small lt) two.1 in
         record {
           previous = one_below v small is;
           by = two.0;
@@ -261,8 +315,8 @@ module _ (K : Tag → List ℕ → List ℕ → Type 0) (script : Tag → Option
           is_read = sym (given_is listed_by two.0.tag past journal is_past) ∙ k.listed;
           op = k.op;
           is_op = is_op v two.0 (within (suc v) v small lt) two.1;
-          commit = (k.says).0;
-          reads = (k.says).1;
+          commit = said.0;
+          reads = said.1;
           serial = each_version_is_serial Scope passes may (commit_at ps) (rows_of ps) (suc v) (facts (suc v) small is) (appended script journal ps) (empty_first ps) (is_appended (suc v) small is) v lt;
         }
 
@@ -297,44 +351,6 @@ module _ (K : Tag → List ℕ → List ℕ → Type 0) (script : Tag → Option
           lost = won_at v p small is k;
         }
 
-    -- a commit whose text names a statement's file is this statement's
-    same_owner : (t : Tag) (st : Statement) → script t ≡ Some st → (w : ℕ) (q : Put) → suc w < 2 ^ 64 → put_under ps (commit_text (suc w)) ≡ Some q
-        → (start : ℕ) (op : Operation Scope) (view : File → List Row) (fs added : List File) → IsOwn t start added → Says (suc w) q.body (effect_of op view fs added) → q.tag ≡ t
-    same_owner t st is_st w q small is start op view fs added own says =
-        let k = s.commits w q small is in
-        let theirs = effect_of k.op k.view (files_in k.s) k.added in
-        let mine = effect_of op view fs added in
-        let same : theirs ≡ mine = sym (k.says).2 ∙ ap changes_of (same_commit (k.says).0 says.0 (sym (k.says).1 ∙ says.1)) ∙ says.2 in
-        let first : first_path k.added ≡ Some (data_text t start own.part) =
-        sym (added_is 0 (not k.op.moves) (taken_files k.view k.op (files_in k.s)) k.added) ∙ ap (λ (x : Commit). first_added x.lines) same
-        ∙ added_is 0 (not op.moves) (taken_files view op fs) added ∙ ap first_path own.is in
-        parts_owner (InPut ps) q.tag k.start (tags q.tag k.statement k.is_statement) 0 k.added (knows w q k).new (knows w q k).parts t start own.part (tags t st is_st) own.small first
-
-    -- what the reply of a commit claims
-    pub has_committed : (t : Tag) (st : Statement) → script t ≡ Some st → (version read attempts : ℕ) → ClaimsCommit t (own t past) version read attempts → HasCommitted journal ps t version read attempts
-    has_committed t st is_st version read attempts c = record { is_read = sym (given_is listed_by t past journal is_past) ∙ c.listed; counted = c.sum; above = c.above; by = found.0; is_by = found.1; is_tag = found.2 }
-      where
-        got_back : (w : ℕ) → version ≡ suc w → (q : Put) → put_under ps (commit_text version) ≡ Some q → q.body ≡ c.body → q.tag ≡ t
-        got_back w same q is body =
-            let small : suc w < 2 ^ 64 = subst (λ (n : ℕ). n < 2 ^ 64) same c.small in
-            let there : put_under ps (commit_text (suc w)) ≡ Some q = ap (λ (n : ℕ). put_under ps (commit_text n)) (sym same) ∙ is in
-            let mine = effect_of c.op c.view (files_in c.s) c.added in
-            let says : Says (suc w) q.body mine = subst (λ (b : List ℕ). Says (suc w) b mine) (sym body) (subst (λ (n : ℕ). Says n c.body mine) same c.says) in
-            same_owner t st is_st w q small there c.start c.op c.view (files_in c.s) c.added c.own says
-
-        by_there : StoredIn (own t past) (commit_text version) c.body ⊎ GotIn (own t past) (commit_text version) c.body → (q : Put) × (put_under ps (commit_text version) ≡ Some q) × (q.tag ≡ t)
-        by_there (inl kept) = let b = s.stored t (commit_text version) c.body kept in (b.put, b.is, b.tag)
-        by_there (inr got) =
-            let put = s.got (commit_text version) c.body (own_got t past (commit_text version) c.body got) in
-            let q = put_of_body (put_under ps (commit_text version)) c.body put in
-            let sum = c.sum in
-            let above = c.above in
-            let next : version ≡ suc (version - 1) = omega (arith, sum, above) in
-            (q.0, q.1, got_back (version - 1) next q.0 q.1 (some_same q.0.body c.body (sym (ap body_of q.1) ∙ put)))
-
-        found : (q : Put) × (put_under ps (commit_text version) ≡ Some q) × (q.tag ≡ t)
-        found = by_there c.there
-
     -- what the reply of rows claims
     pub has_read : (t : Tag) (version : ℕ) (given : List Row) (read live_files : ℕ) → ClaimsRows (K t) (own t past) version given read live_files → HasRead journal ps t version given read live_files
     has_read t version given read live_files c =
@@ -355,20 +371,3 @@ module _ (K : Tag → List ℕ → List ℕ → Type 0) (script : Tag → Option
           files_read = c.files_read ∙ long;
           files_live = c.files_live ∙ length-files (c.s).files ∙ ap (λ (fs : List File). length fs) base;
         }
-      where
-        shown : (t : Tag) (n b : List ℕ) → Known (K t) (own t past) n b → InPut ps n b
-        shown t n b (inl before) = known t n b before
-        shown t n b (inr got) = s.got n b (own_got t past n b got)
-
-  -- what makes a table commits no later version
-  no_table : (w : ℕ) (p q : Put) → suc w < 2 ^ 64 → put_under ps (commit_text 0) ≡ Some p → put_under ps (commit_text (suc w)) ≡ Some q → p.tag ≡ q.tag → ⊥
-  no_table w p q small is there same =
-      let made = s.table p is in
-      no_later K script replies tags past ps w q (s.commits w q small there) made.0 (sym (ap script same) ∙ made.1)
-
-  -- commits of one statement are one
-  pub once : (v w : ℕ) (p q : Put) → v < 2 ^ 64 → w < 2 ^ 64 → put_under ps (commit_text v) ≡ Some p → put_under ps (commit_text w) ≡ Some q → p.tag ≡ q.tag → v ≡ w
-  once zero zero p q small also is there same = refl
-  once zero (suc w) p q small also is there same = absurd (no_table w p q also is there same)
-  once (suc v) zero p q small also is there same = absurd (no_table v q p small there is (sym same))
-  once (suc v) (suc w) p q small also is there same = ap (λ (n : ℕ). suc n) (s.single v w p q small also is there same)

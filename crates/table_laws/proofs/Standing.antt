@@ -30,8 +30,7 @@ use Rattle.table_changes.specs.Table.{File}
 use Rattle.table_changes.specs.Operations.{Operation}
 use Rattle.table_laws.specs.Commits.{files_in, schema_in}
 use Rattle.table_laws.specs.Operations.{Scope, operation_of}
-use Rattle.table_laws.proofs.CommitEffects as effects
-use Rattle.table_laws.proofs.CommitEffects.{Says}
+use Rattle.table_laws.proofs.CommitEffects.{plan_of, Writes}
 use Rattle.table_laws.proofs.Sound.{makes_none}
 use Rattle.table_laws.proofs.Effects.{loaded_columns}
 use Rattle.table_laws.specs.Views.{PutOnce}
@@ -44,6 +43,10 @@ use Rattle.table_laws.proofs.Versions.{data_put}
 use Rattle.table_laws.proofs.Clocks.{AllTo, NeverFall, Since, Lists, since_more, lists_more, to_later, put_to, given_now}
 use Rattle.table_laws.proofs.Members.{IsIn}
 use Rattle.table_laws.proofs.Shown.{InPut, PutBefore, PutAt, PutAs, put_with, Sure, sure_more, own_got, stored_now, put_more, missing_now, none_more, more_after, given_more, suc_same, some_same, IsMadeIn, IsPutBy}
+
+-- versions that are put have fewer bits than those that are named
+fits : (n : ℕ) → n < 2 ^ 60 → n < 2 ^ 64
+fits n small = omega (arith, small)
 
 module _ (K : Tag → List ℕ → List ℕ → Type 0) (script : Tag → Option Statement) (replies : Tag → Option Reply) (tags : (tag : Tag) (statement : Statement) → script tag ≡ Some statement → IsTag tag) where
   -- a statement's entries from here on are lawful
@@ -82,7 +85,8 @@ module _ (K : Tag → List ℕ → List ℕ → Type 0) (script : Tag → Option
     pub read : ℕ
     pub view : File → List Row
     pub added : List File
-    pub says : Says (suc v) p.body (effects.effect_of op view (files_in s) added)
+    pub small : suc v < 2 ^ 60
+    pub writes : Writes (suc v) p.body (plan_of p.tag start read op view (files_in s) added)
     pub knows : Knows p.tag op start read s view added (Sure K p.tag ps) (InPut ps) v
     pub started : first_past told_by (own p.tag past) ≡ Some start
     pub listed : first_past listed_by (own p.tag past) ≡ Some read
@@ -154,7 +158,8 @@ module _ (K : Tag → List ℕ → List ℕ → Type 0) (script : Tag → Option
     s = k.s;
     view = k.view;
     added = k.added;
-    says = k.says;
+    small = k.small;
+    writes = k.writes;
     knows = knows_more p.tag k.op k.start k.read k.s k.view k.added (Sure K p.tag ps) (InPut ps) (Sure K p.tag qs) (InPut qs) v (sure_more K p.tag ps qs more) more k.knows;
     started = given_more told_by p.tag e past _ k.started;
     listed = given_more listed_by p.tag e past _ k.listed;
@@ -225,13 +230,13 @@ module _ (K : Tag → List ℕ → List ℕ → Type 0) (script : Tag → Option
       → (k : IsCommitOf (K tag) tag statement past name body) × (k.version ≡ v)
   new_commit tag statement past name body v small (IsFile start part started least is fresh) h = absurd (data_is_no_commit tag start part (suc v) (sym is ∙ h))
   new_commit tag statement past name body v small (IsTable spec started is_table is text none) h = let e : ◌≡◌ {A = ℕ} 0 (suc v) = commits_differ 0 (suc v) (omega arith) small (sym is ∙ h) in absurd (omega arith)
-  new_commit tag statement past name body v small (IsCommit k) h = (k, suc_same k.version v (commits_differ (suc k.version) (suc v) k.small small (sym k.is ∙ h)))
+  new_commit tag statement past name body v small (IsCommit k) h = (k, suc_same k.version v (commits_differ (suc k.version) (suc v) (fits (suc k.version) k.small) small (sym k.is ∙ h)))
 
   pub new_table : (tag : Tag) (statement : Statement) (past : Entries) (name body : List ℕ) → script tag ≡ Some statement → MayPut (K tag) tag statement past name body → name ≡ commit_text 0
       → (spec : TableSpec) × (script tag ≡ Some (Table spec)) × (body ≡ text_of_columns (names_of spec.columns))
   new_table tag statement past name body by (IsFile start part started least is fresh) h = absurd (data_is_no_commit tag start part 0 (sym is ∙ h))
   new_table tag statement past name body by (IsTable spec started is_table is text none) h = (spec, by ∙ ap (λ (s : Statement). Some s) is_table, text)
-  new_table tag statement past name body by (IsCommit k) h = let e : ◌≡◌ {A = ℕ} (suc k.version) 0 = commits_differ (suc k.version) 0 k.small (omega arith) (sym k.is ∙ h) in absurd (omega arith)
+  new_table tag statement past name body by (IsCommit k) h = let e : ◌≡◌ {A = ℕ} (suc k.version) 0 = commits_differ (suc k.version) 0 (fits (suc k.version) k.small) (omega arith) (sym k.is ∙ h) in absurd (omega arith)
 
   -- a statement that makes a table commits no later version
   pub no_later : (past : Entries) (ps : List Put) (v : ℕ) (q : Put) → Committed past ps v q → (spec : TableSpec) → script q.tag ≡ Some (Table spec) → ⊥
@@ -258,7 +263,7 @@ module _ (K : Tag → List ℕ → List ℕ → Type 0) (script : Tag → Option
         none name q.body m.answer (subst (λ (t : Tag). PutIn (own t past) name q.body m.answer) same m.made)
     not_own (IsCommit k) version at q there same =
         let here : put_under ps (commit_text (suc k.version)) ≡ Some q = ap (λ (n : List ℕ). put_under ps n) (sym k.is) ∙ there in
-        not_lost k.version q here (s.commits k.version q k.small here) (sym same) k
+        not_lost k.version q here (s.commits k.version q (fits (suc k.version) k.small) here) (sym same) k
 
     pub quiet : MayPut (K tag) tag statement (own tag past) name body → (v : ℕ) (q : Put) → put_under ps (commit_text (suc v)) ≡ Some q → Committed past ps v q → tag ≡ q.tag → version_put (PutNew name body) ≡ None
     quiet (IsFile start part started least is fresh) v q old there same = ap (λ (n : List ℕ). version_put (PutNew n body)) is ∙ data_put tag start part body

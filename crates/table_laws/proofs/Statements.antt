@@ -41,16 +41,16 @@ use Rattle.table_changes.specs.Operations.{Operation}
 use Rattle.table_changes.specs.Statements.{insert_of}
 use Rattle.table_laws.specs.Commits.{files_in, meta_in, schema_in}
 use Rattle.table_laws.specs.Operations.{Scope, NoRow, operation_of}
-use Rattle.table_laws.proofs.CommitEffects.{new_file, effect_of, Says, judge_of}
+use Rattle.table_laws.proofs.CommitEffects.{new_file, plan_of, Writes, judge_of}
 use Rattle.table_laws.proofs.Sound.{inserts_rows}
 use Rattle.table_laws.proofs.Effects.{loaded_columns}
 use Rattle.table_laws.specs.Runs.{reply_in, or_first, listed_by, told_by, versions_put}
 use Rattle.table_laws.proofs.Sessions.{GotIn, StoredIn, LoadedTo, KnownKept}
 use Rattle.table_laws.proofs.Lawful.{Known, NoPut, AllLost, first_past, AllGot, AllScanned, Cleared, Knows, versions_down, AllWon, IsOwn, IsFile, IsTable, IsCommit, AllLawful}
 use Rattle.table_laws.proofs.Known.{loaded_more, knows_more, scanned_more, scanned_push}
-use Rattle.table_laws.proofs.Phases.{same_put, now_no_put, list_no_put, none_put, no_commit_put, lost_other, lost_to, given_more, known_more, Fresh, fresh_get, none_lost, replied, ended_lost, at_now, at_list, at_gets, at_put_new, at_attempt}
+use Rattle.table_laws.proofs.Phases.{lost_below, still_below, same_put, now_no_put, list_no_put, none_put, no_commit_put, lost_other, lost_to, given_more, known_more, Fresh, fresh_get, none_lost, replied, ended_lost, at_now, at_list, at_gets, at_put_new, at_attempt}
 use Rattle.table_laws.proofs.Loads.{Loading, loading_more, loading_on, all_loaded, base_known}
-use Rattle.table_laws.proofs.Texts.{append_says, append_clears}
+use Rattle.table_laws.proofs.Texts.{append_writes, append_clears}
 use Rattle.table_laws.proofs.Versions.{data_put, other_put, one_put, no_versions}
 
 still_won : (e : JournalEntry) (past : Entries) (read v : ℕ) → AllWon past read v → AllWon (e ∷ past) read v
@@ -98,15 +98,15 @@ module _ (K : List ℕ → List ℕ → Type 0) (tag : Tag) (op : Operation Scop
       by n from to false e = let same : v ≡ n = grind (arith, nat_tests) in subst (λ (m : ℕ). Cleared G (judge_of (meta_in s) op view (files_in s)) m) same (body, got, clear)
 
   module _ (statement : Statement) (is_op : operation_of (schema_in s) statement ≡ Some op) (plan : CommitPlan)
-      (says : (v : ℕ) → Says (suc v) plan.text (effect_of op view (files_in s) added)) (own : IsOwn tag start added)
+      (writes : (v : ℕ) → Writes (suc v) plan.text (plan_of tag start read op view (files_in s) added)) (own : IsOwn tag start added)
       (clears : (k : ℕ) (body winner : List ℕ) → verdict_of plan body ≡ verdict.Clear winner → (t : Commit) → read_commit (suc k) body ≡ Some t → judge_of (meta_in s) op view (files_in s) t ≡ None) where
     abbrev P : ℕ → Entries → Type 0
     P lost past = Attempts K tag op start read s view added lost past
 
-    said : (v version : ℕ) → suc v ≡ version → Says version plan.text (effect_of op view (files_in s) added)
-    said v version is = subst (λ (n : ℕ). Says n plan.text (effect_of op view (files_in s) added)) is (says v)
+    written : (v version : ℕ) → suc v ≡ version → Writes version plan.text (plan_of tag start read op view (files_in s) added)
+    written v version is = subst (λ (n : ℕ). Writes n plan.text (plan_of tag start read op view (files_in s) added)) is (writes v)
 
-    pub attempts : (limit : ℕ) (out : Option Finish) (kept : Option Kept) (past es : Entries) → suc read + (0 + limit) < 2 ^ 64 → P 0 past → AtCommit tag limit out kept start (suc read) plan (committed read) es
+    pub attempts : (limit : ℕ) (out : Option Finish) (kept : Option Kept) (past es : Entries) → suc read + (0 + limit) < 2 ^ 60 → P 0 past → AtCommit tag limit out kept start (suc read) plan (committed read) es
         → AllLawful K tag statement (reply_in out) past es
     attempts limit out kept past es small p h =
         at_attempt K tag statement out kept plan (record { start = start; retention = retention; first = suc read }) (committed read) P
@@ -132,7 +132,7 @@ module _ (K : List ℕ → List ℕ → Type 0) (tag : Tag) (op : Operation Scop
           s = s;
           view = view;
           added = added;
-          says = says p.before;
+          writes = writes p.before;
           started = p.started;
           listed = p.listed;
           knows = p.knows;
@@ -150,7 +150,7 @@ module _ (K : List ℕ → List ℕ → Type 0) (tag : Tag) (op : Operation Scop
           knows = won_over p.before (Known K (f ∷ e ∷ past)) (StoredIn (f ∷ e ∷ past)) body (inr (inl (got ∙ ap (λ (n : ℕ). Get (commit_text n)) p.next, answer))) (clears p.before body winner clear)
               (grown p.before (e ∷ past) f (grown p.before past e p.knows));
           all_lost = lost_to e f past (commit_text (suc read + lost)) plan.text body put got answer why p.all_lost;
-          puts = other_put f (e ∷ past) (Get (commit_text (suc read + lost))) got refl ∙ one_put e past (suc read + lost) plan.text small put ∙ ap (λ (n : ℕ). n ∷ versions_put past) (let n : suc read + lost ≡ read + suc lost = omega arith in n)
+          puts = other_put f (e ∷ past) (Get (commit_text (suc read + lost))) got refl ∙ one_put e past (suc read + lost) plan.text (omega (arith, small)) put ∙ ap (λ (n : ℕ). n ∷ versions_put past) (let n : suc read + lost ≡ read + suc lost = omega arith in n)
               ∙ ap (λ (l : List ℕ). (read + suc lost) ∷ l) p.puts;
           won = one_won e f past read p.before body (got ∙ ap (λ (n : ℕ). Get (commit_text n)) p.next) answer p.won;
         })
@@ -166,7 +166,11 @@ module _ (K : List ℕ → List ℕ → Type 0) (tag : Tag) (op : Operation Scop
           added = added;
           own = own;
           body = plan.text;
-          says = said p.before l.version (let n = p.next in omega arith);
+          before = p.before;
+          next = let n = p.next in omega arith;
+          writes = written p.before l.version (let n = p.next in omega arith);
+          knows = grown p.before past e p.knows;
+          lost = lost_below e past (suc read + lost) plan.text l.version version (omega (arith, small)) put p.all_lost;
           there = inl (inl (put ∙ ap (λ (v : ℕ). PutNew (commit_text v) plan.text) (sym version), answer));
         })
         (λ lost past e f l put fault got answer version attempts small p. record {
@@ -181,7 +185,11 @@ module _ (K : List ℕ → List ℕ → Type 0) (tag : Tag) (op : Operation Scop
           added = added;
           own = own;
           body = plan.text;
-          says = said p.before l.version (let n = p.next in omega arith);
+          before = p.before;
+          next = let n = p.next in omega arith;
+          writes = written p.before l.version (let n = p.next in omega arith);
+          knows = grown p.before (e ∷ past) f (grown p.before past e p.knows);
+          lost = still_below f (e ∷ past) (commit_text (suc read + lost)) got l.version (lost_below e past (suc read + lost) plan.text l.version version (omega (arith, small)) put p.all_lost);
           there = inr (inl (got ∙ ap (λ (v : ℕ). Get (commit_text v)) (sym version), answer));
         })
         limit 0 [] past es small p h
@@ -195,7 +203,7 @@ module _ (K : List ℕ → List ℕ → Type 0) (tag : Tag) (limit : ℕ) (limit
       (λ e rest put is on. ended_lost K tag (Insert rows) out kept _ (e ∷ past) rest (still e put) on)
       (λ e rest put is on.
       attempts K tag (insert_of NoRow rows) start read s (λ a. []) (new_file tag start 0 ∷ []) (Insert rows) (inserts_rows s columns.0 columns.1 rows) (record { text = text_of_add (data_text tag start 0); makes_table = false })
-      (append_says tag start rows (λ a. []) (files_in s)) (record { part = 0; small = omega arith; more = []; is = refl }) (λ k body winner clear t reads. append_clears (meta_in s) rows (λ a. []) (files_in s) k body t reads)
+      (append_writes tag start read rows (λ a. []) (files_in s)) (record { part = 0; small = omega arith; more = []; is = refl }) (λ k body winner clear t reads. append_clears (meta_in s) rows (λ a. []) (files_in s) k body t reads)
       limit out kept (e ∷ past) rest (omega arith)
       (record {
         before = read;

@@ -9,14 +9,13 @@ use Rattle.line_texts.proofs.Laws.{path_reads_back}
 use Rattle.snapshot_replay.specs.Table.{Commit, table_commit, append_commit}
 use Rattle.statement_calls.specs.Texts.{read_commit}
 use Rattle.table_changes.specs.Rows.{Row}
-use Rattle.table_changes.specs.Table.{File, FileLine, MetaData, paths_of, lines_of}
+use Rattle.table_changes.specs.Table.{File, FileLine, MetaData, paths_of}
 use Rattle.table_changes.specs.Conflicts.{DeleteDelete, clash_or, first_removed, first_clash}
 use Rattle.table_changes.specs.Operations.{reads_of}
 use Rattle.table_changes.specs.Statements.{insert_of}
 use Rattle.table_laws.specs.Commits.{line_of, info_of, protocol_of, meta_of}
 use Rattle.table_laws.specs.Operations.{NoRow, passes, may}
-use Rattle.table_laws.proofs.CommitEffects.{new_file, effect_of, Says, level_in, judge_of}
-use Rattle.table_laws.proofs.Paths.{data_is_path}
+use Rattle.table_laws.proofs.CommitEffects.{new_file, plan_of, said, Writes, level_in, judge_of}
 use Rattle.table_laws.proofs.Sound.{none_picked, none_removed}
 
 later : (v : ℕ) → (suc v == 0) ≡ false
@@ -26,13 +25,16 @@ later v = grind (arith, nat_tests)
 read_later : (v : ℕ) (text : List ℕ) → read_commit (suc v) text ≡ option_map append_commit (path_of_text text)
 read_later v text = ap (λ (b : Bool). if b then option_map table_commit (columns_of_text text) else option_map append_commit (path_of_text text)) (later v)
 
--- the text of an append is read as the path of its file
-pub append_says : (tag : Tag) (start : ℕ) (rows : List Row) (view : File → List Row) (fs : List File) (v : ℕ) → Says (suc v) (text_of_add (data_text tag start 0)) (effect_of (insert_of NoRow rows) view fs (new_file tag start 0 ∷ []))
-append_says tag start rows view fs v = (
-  append_commit (data_text tag start 0),
-  read_later v (text_of_add (data_text tag start 0)) ∙ ap (option_map append_commit) (path_reads_back (data_text tag start 0) (data_is_path tag start)),
-  ap (λ (gone : List File). record { info = Some (info_of true); protocol = None; meta = None; txns = []; lines = lines_of 0 true gone (new_file tag start 0 ∷ []) }) (sym (none_picked fs)),
-)
+-- the text of an append, whose file is whole, is read as the path of its file
+pub append_writes : (tag : Tag) (start read : ℕ) (rows : List Row) (view : File → List Row) (fs : List File) (v : ℕ)
+    → Writes (suc v) (text_of_add (data_text tag start 0)) (plan_of tag start read (insert_of NoRow rows) view fs (new_file tag start 0 ∷ []))
+append_writes tag start read rows view fs v = record {
+  back = λ whole. (
+    append_commit (data_text tag start 0),
+    read_later v (text_of_add (data_text tag start 0)) ∙ ap (option_map append_commit) (path_reads_back (data_text tag start 0) (whole.added).0),
+    ap (λ (gone : List File). said true true gone (new_file tag start 0 ∷ [])) (sym (none_picked fs)),
+  );
+}
 
 -- it has no columns
 no_columns : (v : ℕ) (text : List ℕ) (t : Commit) → read_commit (suc v) text ≡ Some t → t.columns ≡ None

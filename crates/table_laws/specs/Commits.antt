@@ -1,13 +1,13 @@
 -- The seam to the interim texts: what their commits and their snapshots say, in the words of tables (table_files). The history of a run cites it at each version,
 -- and the proofs of a load go by it from a snapshot to a version. When the texts are those of the Delta log, this file goes.
 -- The crate above cites each_run_is_lawful alone.
-use Rattle.std.specs.Prelude.{ℕ, Bool, false, List, [], map, Option, Some, None, option_map}
+use Rattle.std.specs.Prelude.{◌≡◌, ℕ, Bool, true, false, List, [], map, Option, Some, None, option_map}
 use Rattle.log_actions.specs.declared.action.CommitInfo.{CommitInfo}
 use Rattle.log_actions.specs.declared.action.MetaData.{MetaData}
 use Rattle.log_actions.specs.declared.action.Protocol.{Protocol}
 use Rattle.row_base.specs.declared.row.Kind.TheVariants.{Long}
 use Rattle.row_base.specs.Schema.{TableSchema}
-use Rattle.line_texts.specs.Texts.{text_of_columns, columns_of_text}
+use Rattle.line_texts.specs.Texts.{is_path, text_of_columns, columns_of_text}
 use Rattle.snapshot_replay.specs.Table.{Add, Action, Removes, Adds, Snapshot}
 use Rattle.snapshot_replay.specs.Table.{Commit as LogCommit}
 use Rattle.table_files.specs.Files.{File, FileLine}
@@ -17,6 +17,10 @@ use Rattle.table_files.specs.Commits.{Commit}
 -- a data file: a line says its path, which is its name in the store, and nothing else
 abbrev pub file_of : Add → File
 file_of a = record { path = a.path; name = a.path; values = []; size = 0; made = 0; stats = None; tags = None }
+
+-- a file whose line its text gives back
+abbrev pub IsWholeFile : File → Type 0
+IsWholeFile a = is_path a.path ≡ true
 
 -- a line, in a commit that says of all its lines whether they change rows
 abbrev pub line_of : Bool → Action → FileLine

@@ -1,7 +1,7 @@
 -- The versions of a table, by the puts that took effect in a journal: which are committed, and their metadata, live files and rows. The law (Laws) speaks
 -- of a journal by these words alone, so retention may add what stands at each prefix.
 -- The crate above cites each_run_is_lawful alone.
-use Rattle.std.specs.Prelude.{ℕ, Bool, false, if◌then◌else◌, List, [], ◌∷◌, ◌++◌, Option, Some, None, IsSome, option_and_then}
+use Rattle.std.specs.Prelude.{ℕ, Bool, if◌then◌else◌, List, [], ◌∷◌, ◌++◌, Option, Some, None, IsSome, option_and_then}
 use Rattle.std.specs.Str.{bytes_eq}
 use Rattle.edge_api.specs.declared.call.Tag.{Tag}
 use Rattle.edge_api.specs.declared.call.Call.{Call}

@@ -103,10 +103,14 @@ CommitsRead moments = (v k : ℕ) → suc v < 2 ^ 64 → IsCommitted (history []
 abbrev pub FileReads : List Put → List ℕ → Type 0
 FileReads ps name = (p : Put) × (put_under ps name ≡ Some p) × (rows : List Row) × (read_file p.body ≡ Some rows)
 
+-- each of these files is so
+abbrev pub AllAre : (File → Type 0) → List File → Type 0
+AllAre P [] = Unit {0}
+AllAre P (a ∷ fs) = P a × AllAre P fs
+
 -- each of these files reads
 abbrev pub AllFilesRead : List Put → List File → Type 0
-AllFilesRead ps [] = Unit {0}
-AllFilesRead ps (a ∷ fs) = FileReads ps a.name × AllFilesRead ps fs
+AllFilesRead ps fs = AllAre (λ a. FileReads ps a.name) fs
 
 -- each live file of a version reads
 abbrev pub FilesRead : List Moment → Type 0
