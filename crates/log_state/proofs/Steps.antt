@@ -5,7 +5,7 @@ use Rattle.log_state.specs.declared.kept.Kept.{Kept}
 use Rattle.log_state.specs.declared.keyed.Keyed.{Keyed}
 use Rattle.log_state.specs.Keys.{with_key}
 use Rattle.log_state.specs.Newest.{newer, newest, protocol_in, metadata_in, txn_on, action_on}
-use Rattle.log_state.specs.Table.{found}
+use Rattle.log_state.specs.Table.{found, txns_after, actions_after}
 use Rattle.log_state.specs.Kept.{Keeps, IsSame, HasRoom}
 use Rattle.std.specs.List.{AllByRecursion, IsDistinct}
 use Rattle.std.specs.Map.{keys_of}
@@ -17,6 +17,8 @@ use Rattle.log_state.proofs.Newer.{newer_step}
 pub record Leads (old : Kept) (all rest : List Action) (now : Kept) : Type 0 where
   pub protocol : newer now.protocol (newest protocol_in rest) ≡ newer old.protocol (newest protocol_in all)
   pub meta : newer now.meta (newest metadata_in rest) ≡ newer old.meta (newest metadata_in all)
+  pub txns : txns_after now.txns.entries rest ≡ txns_after old.txns.entries all
+  pub actions : actions_after now.actions.entries rest ≡ actions_after old.actions.entries all
   pub txn : (app : List ℕ) → newer (found now.txns.entries app) (newest (txn_on app) rest) ≡ newer (found old.txns.entries app) (newest (txn_on app) all)
   pub action : (path : List ℕ) → newer (found now.actions.entries path) (newest (action_on path) rest) ≡ newer (found old.actions.entries path) (newest (action_on path) all)
 
@@ -24,6 +26,8 @@ pub at_start : (old now : Kept) (all : List Action) → IsSame old now → Leads
 at_start old now all same = record {
   protocol = ap (λ x. newer x (newest protocol_in all)) same.protocol;
   meta = ap (λ x. newer x (newest metadata_in all)) same.meta;
+  txns = ap (λ es. txns_after es all) same.txns;
+  actions = ap (λ es. actions_after es all) same.actions;
   txn = λ app. ap (λ es. newer (found es app) (newest (txn_on app) all)) same.txns;
   action = λ path. ap (λ es. newer (found es path) (newest (action_on path) all)) same.actions;
 }
@@ -32,13 +36,15 @@ pub one_step : (old now new : Kept) (all rest : List Action) (a : Action) → Le
 one_step old now new all rest a l k = record {
   protocol = newer_step protocol_in (newer old.protocol (newest protocol_in all)) a rest now.protocol new.protocol l.protocol k.protocol;
   meta = newer_step metadata_in (newer old.meta (newest metadata_in all)) a rest now.meta new.meta l.meta k.meta;
+  txns = ap (λ es. txns_after es rest) k.txns ∙ l.txns;
+  actions = ap (λ es. actions_after es rest) k.actions ∙ l.actions;
   txn = λ app. newer_step (txn_on app) (newer (found old.txns.entries app) (newest (txn_on app) all)) a rest (found now.txns.entries app) (found new.txns.entries app) (l.txn app) (k.txn app);
   action = λ path. newer_step (action_on path) (newer (found old.actions.entries path) (newest (action_on path) all)) a rest (found now.actions.entries path) (found new.actions.entries path) (l.action path) (k.action path);
 }
 
 pub at_end : (old now : Kept) (all : List Action) → Leads old all [] now → Keeps old all now
 unfolding newest
-at_end old now all l = record { protocol = l.protocol; meta = l.meta; txn = l.txn; action = l.action }
+at_end old now all l = record { protocol = l.protocol; meta = l.meta; txns = l.txns; actions = l.actions; txn = l.txn; action = l.action }
 
 -- the actions without their keys
 abbrev pub actions_of : List Keyed → List Action

@@ -6,7 +6,7 @@ use Rattle.log_state.specs.Newest.{actions_in, newer, newest, protocol_in, metad
 use Rattle.log_state.specs.Stamps.{stamp_in, stamp_after, stamp_from}
 use Rattle.log_state.specs.declared.kept.Kept.{Kept}
 use Rattle.log_state.specs.Kept.{Keeps, table_at}
-use Rattle.log_state.specs.Table.{Table, found, txn_of, action_of, next_version, version_from, Reconciles, IsTableOf, IsApplied, IsInRange}
+use Rattle.log_state.specs.Table.{Table, applied, found, txn_of, action_of, next_version, version_from, Reconciles, IsTableOf, IsApplied, IsInRange}
 use Rattle.log_state.proofs.Newer.{newest_append, newer_none}
 
 version_more : (before : Option ℕ) (commits : List (List Action)) (a : List Action) → version_from before (commits ++ a ∷ []) ≡ Some (next_version (version_from before commits))
@@ -50,6 +50,17 @@ is_applied version last old new next stamp commit at k = record {
   meta = k.meta;
   txn = k.txn;
   action = k.action;
+}
+
+pub applies : (version last : Option ℕ) (old new : Kept) (next stamp : ℕ) (commit : List Action) → stamp ≡ stamp_after last (stamp_in commit) → Keeps old commit new
+    → table_at (Some next) (Some stamp) new ≡ applied (table_at version last old) next commit
+applies version last old new next stamp commit at k = λ i. record {
+  version = Some next;
+  stamp = Some (at i);
+  protocol = k.protocol i;
+  meta = k.meta i;
+  txns = k.txns i;
+  actions = k.actions i;
 }
 
 pub reconciles : (version last : Option ℕ) (old new : Kept) (next stamp : ℕ) (commit : List Action) → next ≡ next_version version → stamp ≡ stamp_after last (stamp_in commit)

@@ -6,12 +6,14 @@ use Rattle.log_actions.specs.declared.action.Action.{Action}
 use Rattle.log_state.specs.declared.kept.Kept.{Kept}
 use Rattle.log_state.specs.Newest.{newer, newest, protocol_in, metadata_in, txn_on, action_on}
 use Rattle.log_actions.specs.Twice.{is_on_path}
-use Rattle.log_state.specs.Table.{Table, IsInRange, found}
+use Rattle.log_state.specs.Table.{Table, IsInRange, found, txns_after, actions_after}
 
 -- the newest of these actions on each thing came in place of what was kept
 pub record Keeps (old : Kept) (all : List Action) (new : Kept) : Type 0 where
   pub protocol : new.protocol ≡ newer old.protocol (newest protocol_in all)
   pub meta : new.meta ≡ newer old.meta (newest metadata_in all)
+  pub txns : new.txns.entries ≡ txns_after old.txns.entries all
+  pub actions : new.actions.entries ≡ actions_after old.actions.entries all
   pub txn : (app : List ℕ) → found new.txns.entries app ≡ newer (found old.txns.entries app) (newest (txn_on app) all)
   pub action : (path : List ℕ) → found new.actions.entries path ≡ newer (found old.actions.entries path) (newest (action_on path) all)
 

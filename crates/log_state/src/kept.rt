@@ -1,7 +1,7 @@
 //! What a table keeps of its log's actions: the newest on each thing.
 ghost use Rattle.std.specs.Prelude.{◌≡◌, ◌<◌, ◌≤◌, ◌+◌, ◌++◌, ◌∷◌, [], length, map, List, ℕ, Some, None, if◌then◌else◌, OnOk, OnErr, IfOk};
 ghost use Rattle.std.specs.Str.{bytes_eq};
-ghost use Rattle.indexmap.specs.IndexMap.{spare};
+ghost use Rattle.indexmap.specs.IndexMap.{insert_entry, spare};
 ghost use Rattle.log_state.specs.Newest.{newer, newest, protocol_in, metadata_in, txn_on, action_on};
 ghost use Rattle.log_state.specs.Keys.{with_key};
 ghost use Rattle.log_state.specs.Table.{found};
@@ -26,6 +26,7 @@ pub struct Kept {
 /// Puts a value under a name in place of the one that was there. There has to be room for one more.
 fn put<V: Drop>(map: &mut IndexMap<Text, V>, name: Text, value: V)
     requires { 0 < spare map.old }
+    ensures entries { map.new.entries ≡ insert_entry bytes_eq map.old.entries name value }
     ensures found { (q : List ℕ) → found map.new.entries q ≡ (if bytes_eq name q then Some value else found map.old.entries q) }
     ensures room { spare map.old ≤ spare map.new + 1 }
 {

@@ -2,7 +2,7 @@
 ghost use Rattle.std.specs.Prelude.{◌≡◌, ◌<◌, ◌≤◌, ◌-◌, ◌^◌, ◌++◌, ◌∷◌, [], List, map, Some, option_map, option_copied, OnOk, OnErr, IfOk};
 ghost use Rattle.log_actions.specs.declared.action.Action.{Action as ActionValue};
 ghost use Rattle.log_state.specs.Listed.{AreLive, AreTombstones, AreTxns};
-ghost use Rattle.log_state.specs.Table.{IsTableOf, IsApplied, Reconciles, next_version, txn_of};
+ghost use Rattle.log_state.specs.Table.{applied, IsTableOf, IsApplied, Reconciles, next_version, txn_of};
 
 use crate::kept::{Kept, keep_all, nothing_kept};
 use crate::listed::listed;
@@ -82,7 +82,8 @@ impl State {
     pub fn apply(&mut self, version: u64, actions: Vec<Action>) -> Result<(), NoMemory>
         requires next { version ≡ next_version self.old.version }
         requires few { version < 2 ^ 21 }
-        ensures applied { OnOk result (IsApplied self.old version actions.items self.new) }
+        ensures table { OnOk result (self.new ≡ applied self.old version actions.items) }
+        ensures each { OnOk result (IsApplied self.old version actions.items self.new) }
         ensures reconciled { OnOk result ((commits : List (List ActionValue)) → IsTableOf commits self.old
             → IsTableOf (commits ++ actions.items ∷ []) self.new) }
         ensures err { OnErr result (self.new ≡ self.old) }

@@ -2,13 +2,13 @@ use Rattle.std.proofs.Common.{rules, ◌≡◌, ◌∷◌, [], ◌++◌, Some, L
 use Rattle.log_actions.specs.declared.action.Action.{Action}
 use Rattle.log_state.specs.Stamps.{stamp_in, stamp_after}
 use Rattle.log_state.specs.Kept.{table_at, IsState}
-use Rattle.log_state.specs.Table.{Table, IsApplied, IsTableOf, next_version}
+use Rattle.log_state.specs.Table.{Table, applied, IsApplied, IsTableOf, next_version}
 use Rattle.log_state.proofs.Owns.{next_state, same_state}
-use Rattle.log_state.proofs.Tables.{is_applied, reconciles}
+use Rattle.log_state.proofs.Tables.{applies, is_applied, reconciles}
 use Rattle.log_state.proofs.state.State.apply.Goals as goal
 
-pub returns-clause-applied : goal.returns-clause-applied
-returns-clause-applied c =
+pub returns-clause-each : goal.returns-clause-each
+returns-clause-each c =
     let s = c.self.inside in
     let actions = c.args.actions.items in
     let stamp = c.stamp_after-stamp.result in
@@ -16,6 +16,16 @@ returns-clause-applied c =
     let at : stamp ≡ stamp_after s.stamp (stamp_in actions) = search rules in
     subst (λ (t : Table). IsApplied t c.args.version actions (table_at (Some c.args.version) (Some stamp) new)) c.self.view_is
     (is_applied s.version s.stamp s.kept new c.args.version stamp actions at c.in_ok-keep_all.ensures.ok)
+
+pub returns-clause-table : goal.returns-clause-table
+returns-clause-table c =
+    let s = c.self.inside in
+    let actions = c.args.actions.items in
+    let stamp = c.stamp_after-stamp.result in
+    let new = c.keep_all.new.kept in
+    let at : stamp ≡ stamp_after s.stamp (stamp_in actions) = search rules in
+    subst (λ (t : Table). table_at (Some c.args.version) (Some stamp) new ≡ applied t c.args.version actions) c.self.view_is
+    (applies s.version s.stamp s.kept new c.args.version stamp actions at c.in_ok-keep_all.ensures.ok)
 
 pub returns-clause-reconciled : goal.returns-clause-reconciled
 returns-clause-reconciled c =
