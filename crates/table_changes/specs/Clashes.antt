@@ -1,15 +1,12 @@
 -- Each case of the conflict check, on one winner each.
 use Rattle.std.specs.Prelude.{◌≡◌, ℕ, Bool, true, false, List, [], ◌∷◌, Option, Some, None}
-use Rattle.table_changes.specs.Table.{FileLine, Removes, Adds, Level, Serializable, WriteSerializable, Meta, Commit, tombstone_of}
+use Rattle.table_changes.specs.Table.{FileLine, Removes, Adds, Level, Serializable, WriteSerializable, Commit, tombstone_of}
 use Rattle.table_changes.specs.Conflicts.{LooksAt, Makes, Literal, Settings, Scans, Rewrites, Clash, Protocol, Metadata, Append, DeleteRead, DeleteDelete, Transaction, Reads, first_clash}
-use Rattle.table_changes.specs.Example.{file}
+use Rattle.table_changes.specs.Example.{file, commit, some_protocol, metadata}
 
 -- it got the file 1 and takes it out, a file of any path may match, and it names an application 7
 abbrev pub reads : Level → LooksAt → Reads
 reads level kind = record { level = level; kind = kind; may = λ a. true; got = (1 ∷ []) ∷ []; removed = (1 ∷ []) ∷ []; app = Some (7 ∷ []) }
-
-abbrev pub commit : Bool → List FileLine → Commit
-commit blind lines = record { blind = blind; protocol = false; meta = None; txns = []; lines = lines }
 
 abbrev pub adds : Bool → ℕ → FileLine
 adds changes n = Adds (file n) changes
@@ -17,16 +14,13 @@ adds changes n = Adds (file n) changes
 abbrev pub removes : Bool → ℕ → FileLine
 removes changes n = Removes (tombstone_of 0 (file n)) changes
 
-abbrev pub some_meta : Meta
-some_meta = record { schema = record { columns = []; partition = [] }; level = Serializable }
-
 abbrev pub clash : Level → LooksAt → Commit → Option Clash
 clash level kind t = first_clash (reads level kind) t
 
 pub record EachCaseClashes : Type 0 where
   -- protocol and metadata come first, for all
-  pub protocol : clash Serializable Settings (record (commit false (adds true 2 ∷ [])) { protocol = true; meta = Some some_meta }) ≡ Some Protocol
-  pub metadata : clash Serializable Literal (record (commit false []) { meta = Some some_meta; txns = (7 ∷ [], 1) ∷ [] }) ≡ Some Metadata
+  pub protocol : clash Serializable Settings (record (commit false (adds true 2 ∷ [])) { protocol = Some some_protocol; meta = Some (metadata [] []) }) ≡ Some Protocol
+  pub metadata : clash Serializable Literal (record (commit false []) { meta = Some (metadata [] []); txns = (7 ∷ [], 1) ∷ [] }) ≡ Some Metadata
   pub making : clash Serializable Makes (commit false []) ≡ Some Protocol
   -- new files count for one that reads rows, but for those of a blind append at the weaker level
   pub append : clash WriteSerializable Scans (commit false (removes true 2 ∷ adds true 3 ∷ adds true 4 ∷ [])) ≡ Some (Append (3 ∷ []))

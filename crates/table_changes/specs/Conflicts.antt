@@ -1,6 +1,6 @@
 -- When a commit that won stands against an operation.
 use Rattle.std.specs.Prelude.{ℕ, Bool, true, false, not, ◌&&◌, ◌||◌, if◌then◌else◌, List, [], ◌∷◌, Option, Some, None, option_map}
-use Rattle.table_changes.specs.Table.{File, FileLine, Removes, Adds, Level, Serializable, WriteSerializable, Meta, Commit, has_path, number_in}
+use Rattle.table_changes.specs.Table.{File, FileLine, Removes, Adds, Level, Serializable, WriteSerializable, Commit, is_blind, has_path, number_in}
 
 -- what a statement looks at in a winner's lines: one that makes a table at any winner, an insert of literal rows and a change of the
 -- table's settings at no file, one that reads rows at the files that may match its scope, one that rewrites files at those alone
@@ -58,7 +58,7 @@ no_removes (Removes t changes ∷ ls) = false
 no_removes (Adds a changes ∷ ls) = no_removes ls
 
 abbrev pub is_blind_append : Commit → Bool
-is_blind_append t = t.blind && no_removes t.lines
+is_blind_append t = is_blind t && no_removes t.lines
 
 -- whether a winner's new files count for an append clash
 abbrev pub counts_at : Level → Commit → Bool
@@ -73,9 +73,10 @@ abbrev pub clash_or : Option Clash → Option Clash → Option Clash
 clash_or None rest = rest
 clash_or (Some c) rest = Some c
 
-abbrev pub has_meta : Option Meta → Bool
-has_meta None = false
-has_meta (Some m) = true
+-- whether it sets one
+abbrev pub is_set : {A : Type 0} → Option A → Bool
+is_set None = false
+is_set (Some x) = true
 
 -- the application's transaction, if it is named
 abbrev pub same_app : Option (List ℕ) → List (List ℕ × ℕ) → Option Clash
@@ -85,8 +86,8 @@ same_app (Some app) txns = option_map (λ n. Transaction app) (number_in app txn
 -- the first clash with a winner, in the order of the cases
 abbrev pub first_clash : Reads → Commit → Option Clash
 first_clash r t =
-    clash_or (where_true (is_making r.kind || t.protocol) (Some Protocol))
-    (clash_or (where_true (has_meta t.meta) (Some Metadata))
+    clash_or (where_true (is_making r.kind || is_set t.protocol) (Some Protocol))
+    (clash_or (where_true (is_set t.meta) (Some Metadata))
     (clash_or (where_true (is_scan r.kind && counts_at r.level t) (option_map Append (first_match r.may t.lines)))
     (clash_or (where_true (is_scan r.kind) (option_map DeleteRead (first_removed r.got t.lines)))
     (clash_or (option_map DeleteDelete (first_removed r.removed t.lines))

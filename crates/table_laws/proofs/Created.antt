@@ -26,7 +26,7 @@ use Rattle.table_laws.proofs.Refused.{put_faulted}
 use Rattle.table_laws.proofs.Ends.{run_end, claims}
 
 module _ (K : Tag → List ℕ → List ℕ → Type 0) (script : Tag → Option Statement) (replies : Tag → Option Reply) (tags : (tag : Tag) (statement : Statement) → script tag ≡ Some statement → IsTag tag)
-    (past : Entries) (os : Objects) (ps : List Put) (s : Stands K script replies tags past os ps) (journal : Entries) (is_past : past ≡ backwards [] journal) where
+    (past : Entries) (os : Objects) (ps : List Put) (clock : ℕ) (s : Stands K script replies tags past os ps clock) (journal : Entries) (is_past : past ≡ backwards [] journal) where
   -- version 0 as the statement that made it finds it
   record Made (t : Tag) (text : List ℕ) : Type 0 where
     by : Put
@@ -53,4 +53,4 @@ pub created_at : (limit : ℕ) (script : Tag → Option Statement) (outcomes : T
 created_at limit script outcomes moments legal run t st is_st is_reply =
     let e = run_end limit script outcomes moments legal run in
     let claim = claims limit script outcomes moments legal run e t st Created is_st is_reply in
-    (claim.spec, claim.is_table, has_created (SessionKnows (entries_of moments)) script (replies_of outcomes) run.tags e.past e.os (history [] moments) e.stands (entries_of moments) e.is t st claim)
+    (claim.spec, claim.is_table, has_created (SessionKnows (entries_of moments)) script (replies_of outcomes) run.tags e.past e.os (history [] moments) e.clock e.stands (entries_of moments) e.is t st claim)

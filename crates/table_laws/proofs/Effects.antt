@@ -4,21 +4,19 @@ use Rattle.std.specs.Prelude.{Option, Some, None, if◌then◌else◌, option_ma
 use Rattle.std.specs.Str.{bytes_eq}
 use Rattle.std.specs.Ordering.{is_lt, nat_cmp}
 use Rattle.std.specs.Cmp.Lexicographic.{slice_cmp}
-use Rattle.edge_api.specs.declared.call.Tag.{Tag}
-use Rattle.row_base.specs.Schema.{TableSchema}
 use Rattle.table_rules.specs.Names.{commit_text}
 use Rattle.line_texts.specs.Texts.{columns_of_text}
 use Rattle.snapshot_replay.specs.Table as log
 use Rattle.statement_calls.specs.Texts.{read_commit, read_file}
 use Rattle.table_changes.specs.Rows.{Row}
-use Rattle.table_changes.specs.Table.{File, Meta, Commit, newer, reconciled, without_path, placed, lines_of}
+use Rattle.table_changes.specs.Table.{File, MetaData, Commit, newer, reconciled, without_path, placed, lines_of}
 use Rattle.table_changes.specs.Conflicts.{Reads, is_literal, first_clash}
 use Rattle.table_changes.specs.Operations.{Operation, IsSound, Agree, got_files}
 use Rattle.table_changes.proofs.Folded.{each_verdict_is_local}
-use Rattle.table_laws.specs.Commits.{file_of, line_of, meta_of, changes_of, files_in, meta_in}
+use Rattle.table_laws.specs.Commits.{file_of, line_of, info_of, meta_of, changes_of, files_in, meta_in}
 use Rattle.table_laws.specs.Operations.{Scope, passes, may}
 use Rattle.table_laws.specs.History.{Put, or_none, or_nothing, commit_at, live_at, meta_at, rows_of}
-use Rattle.table_laws.proofs.CommitEffects.{new_file, effect_of, Says, level_in, judge_of}
+use Rattle.table_laws.proofs.CommitEffects.{effect_of, Says, level_in, judge_of}
 use Rattle.table_laws.proofs.Sessions.{LoadedTo}
 use Rattle.table_laws.proofs.Lawful.{AllGot}
 use Rattle.table_laws.proofs.Shown.{InPut}
@@ -83,8 +81,8 @@ loaded_columns G (suc v) s h =
     still old (Some columns) = (columns, refl)
 
 module _ (ps : List Put) where
-  pub file_is : (schema : Option TableSchema) (a : File) (body : List ℕ) (found : List Row) → InPut ps a.name body → read_file body ≡ Some found → found ≡ rows_of ps schema a
-  file_is schema a body found h reads = sym (ap (λ (o : Option (List ℕ)). or_none (option_and_then read_file o)) h ∙ ap or_none reads)
+  pub file_is : (at : Option MetaData) (a : File) (body : List ℕ) (found : List Row) → InPut ps a.name body → read_file body ≡ Some found → found ≡ rows_of ps at a
+  file_is at a body found h reads = sym (ap (λ (o : Option (List ℕ)). or_none (option_and_then read_file o)) h ∙ ap or_none reads)
 
   pub commit_is : (v : ℕ) (text : List ℕ) (t : log.Commit) → InPut ps (commit_text v) text → read_commit v text ≡ Some t → commit_at ps v ≡ changes_of t
   commit_is v text t h reads = ap (λ (o : Option (List ℕ)). or_nothing (option_and_then (read_commit v) o)) h ∙ ap or_nothing reads
@@ -108,26 +106,26 @@ module _ (ps : List Put) where
       ∙ ap (λ (t : Commit). t.meta) (sym (commit_is 0 h.1 h.2 h.4 h.5))
   loaded_meta (suc v) s h =
       ap meta_in h.6 ∙ newer_said (h.0).columns (h.2).columns
-      ∙ ap (λ (m : Option Meta). newer m (option_map meta_of (h.2).columns)) (loaded_meta v h.0 h.3)
+      ∙ ap (λ (m : Option MetaData). newer m (option_map meta_of (h.2).columns)) (loaded_meta v h.0 h.3)
       ∙ ap (λ (t : Commit). newer (meta_at ps v) t.meta) (sym (commit_is (suc v) h.1 h.2 h.4 h.5))
 
   -- the rows of files that were got are those put
-  pub got_agree : (schema : Option TableSchema) (view : File → List Row) (fs : List File) → AllGot (InPut ps) view fs → Agree view (rows_of ps schema) fs
-  got_agree schema view [] h = tt
-  got_agree schema view (a ∷ fs) h = (file_is schema a h.0.0 (view a) h.0.1 h.0.2, got_agree schema view fs h.1)
+  pub got_agree : (at : Option MetaData) (view : File → List Row) (fs : List File) → AllGot (InPut ps) view fs → Agree view (rows_of ps at) fs
+  got_agree at view [] h = tt
+  got_agree at view (a ∷ fs) h = (file_is at a h.0.0 (view a) h.0.1 h.0.2, got_agree at view fs h.1)
 
   -- so what an operation takes out and writes, and what it is checked against
-  module _ (schema : Option TableSchema) (op : Operation Scope) (sound : IsSound passes may op) (view : File → List Row) (fs : List File) (files : AllGot (InPut ps) view (got_files op fs)) where
-    agree : Agree view (rows_of ps schema) (got_files op fs)
-    agree = got_agree schema view (got_files op fs) files
+  module _ (at : Option MetaData) (op : Operation Scope) (sound : IsSound passes may op) (view : File → List Row) (fs : List File) (files : AllGot (InPut ps) view (got_files op fs)) where
+    agree : Agree view (rows_of ps at) (got_files op fs)
+    agree = got_agree at view (got_files op fs) files
 
-    pub same_written : op.writes view fs ≡ op.writes (rows_of ps schema) fs
-    same_written = (sound.local view (rows_of ps schema) fs agree).0
+    pub same_written : op.writes view fs ≡ op.writes (rows_of ps at) fs
+    same_written = (sound.local view (rows_of ps at) fs agree).0
 
-    pub same_effect : (tag : Tag) (start : ℕ) → effect_of tag start op view fs ≡ effect_of tag start op (rows_of ps schema) fs
-    same_effect tag start =
-        ap (λ (gone : List File). record { blind = is_literal op.kind; protocol = false; meta = None; txns = []; lines = lines_of 0 (not op.moves) gone (new_file tag start ∷ []) })
-        (sound.local view (rows_of ps schema) fs agree).1
+    pub same_effect : (added : List File) → effect_of op view fs added ≡ effect_of op (rows_of ps at) fs added
+    same_effect added =
+        ap (λ (gone : List File). record { info = Some (info_of (is_literal op.kind)); protocol = None; meta = None; txns = []; lines = lines_of 0 (not op.moves) gone added })
+        (sound.local view (rows_of ps at) fs agree).1
 
-    pub same_judge : (meta : Option Meta) (t : log.Commit) → judge_of meta op view fs t ≡ judge_of meta op (rows_of ps schema) fs t
-    same_judge meta t = ap (λ (r : Reads). first_clash r (changes_of t)) (each_verdict_is_local Scope passes may op sound (level_in op meta) None view (rows_of ps schema) fs agree).0
+    pub same_judge : (meta : Option MetaData) (t : log.Commit) → judge_of meta op view fs t ≡ judge_of meta op (rows_of ps at) fs t
+    same_judge meta t = ap (λ (r : Reads). first_clash r (changes_of t)) (each_verdict_is_local Scope passes may op sound (level_in op meta) None view (rows_of ps at) fs agree).0

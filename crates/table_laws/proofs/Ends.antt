@@ -1,5 +1,6 @@
 -- What holds at the end of a run.
-use Rattle.std.proofs.Common.{◌≡◌, inl, inr, ℕ, zero, suc, List, [], refl, sym, ◌∙◌, ap, subst}
+use Rattle.std.proofs.Common.{◌≡◌, inl, inr, ℕ, zero, suc, List, [], ◌++◌, refl, sym, ◌∙◌, ap, subst}
+use Rattle.std.proofs.lemmas.List.{append-nil}
 use Rattle.std.specs.Prelude.{Option, Some, None}
 use Rattle.edge_api.specs.declared.call.Tag.{Tag}
 use Rattle.edge_api.specs.Journal.{Moment, IsLegal, entries_of}
@@ -11,7 +12,7 @@ use Rattle.statement_calls.specs.declared.finish.Finish.{Finish}
 use Rattle.statement_calls.specs.declared.finish.Kept.{Kept}
 use Rattle.actor_core.specs.Entries.{own}
 use Rattle.table_changes.specs.Table.{FileLine, reconciled, rows_in}
-use Rattle.table_laws.specs.History.{body_of, schema_at, rows_of, history}
+use Rattle.table_laws.specs.History.{body_of, meta_at, rows_of, history}
 use Rattle.table_laws.specs.Runs.{kept_in, kept_at, kept_before, replies_of, BeginsWith, IsAnsweredPart, IsRun}
 use Rattle.table_laws.specs.Laws.{VersionsAreSerial, FirstIsEmpty, FirstMakesTable, CommitsOnce, CommitsRead, FilesRead, CommitsLand, RepliesCommitted, RepliesRead}
 use Rattle.table_laws.specs.Folded.{RowsAreFolded}
@@ -23,7 +24,7 @@ use Rattle.table_laws.proofs.Statements.{answered_lawful}
 use Rattle.table_laws.proofs.Kept.{answered_known}
 use Rattle.table_laws.proofs.Shown.{InPut, own_got, got_at, stored_at}
 use Rattle.table_laws.proofs.Standing.{Keeps, KeepsPart, nothing_stands}
-use Rattle.table_laws.proofs.Journals.{End, whole}
+use Rattle.table_laws.proofs.Journals.{StandsAt, stands_at}
 use Rattle.table_laws.proofs.Readings.{empty_first}
 use Rattle.table_laws.proofs.Serial.{makes_table, commits_read, files_read, step, lands, has_committed, has_read, once}
 use Rattle.table_laws.proofs.Folded.{rows_folded}
@@ -59,11 +60,17 @@ module _ (limit : ℕ) (script : Tag → Option Statement) (outcomes : Tag → O
       part kept held (Some statement) e h =
           answered_lawful (K t) t limit run.limited kept held statement (λ rows is. run.faithful t rows (e ∙ ap (λ (s : Statement). Some s) is)) (own t journal) (outcomes t) h
 
+  -- what stands after a part of the moments
+  pub stands_after : (before rest : List Moment) → moments ≡ before ++ rest → StandsAt K script (replies_of outcomes) run.tags [] [] [] 0 before rest
+  stands_after before rest parts =
+      stands_at K script (replies_of outcomes) run.tags before rest [] [] [] 0 (nothing_stands K script (replies_of outcomes) run.tags) (subst (IsLegal [] 0) parts legal)
+      (subst (λ (ms : List Moment). Keeps K script (replies_of outcomes) run.tags [] (entries_of ms)) parts keeps_answered)
+
   abbrev at_end : Type 0
-  at_end = End K script (replies_of outcomes) run.tags [] journal (history [] moments)
+  at_end = StandsAt K script (replies_of outcomes) run.tags [] [] [] 0 moments []
 
   pub run_end : at_end
-  run_end = whole K script (replies_of outcomes) run.tags moments [] [] [] 0 (nothing_stands K script (replies_of outcomes) run.tags) legal keeps_answered
+  run_end = stands_after moments [] (sym (append-nil moments))
 
   -- what a session knows was put by the end
   pub known_at : (e : at_end) (t : Tag) (n b : List ℕ) → K t n b → InPut (history [] moments) n b
@@ -82,12 +89,12 @@ module _ (limit : ℕ) (script : Tag → Option Statement) (outcomes : Tag → O
   pub serial_at : VersionsAreSerial script moments
   serial_at v small is =
       let e = run_end limit script outcomes moments legal run in
-      step (SessionKnows (entries_of moments)) script (replies_of outcomes) run.tags e.past e.os (history [] moments) e.stands (known_at limit script outcomes moments legal run e) (entries_of moments) e.is v small is
+      step (SessionKnows (entries_of moments)) script (replies_of outcomes) run.tags e.past e.os (history [] moments) e.clock e.stands (known_at limit script outcomes moments legal run e) (entries_of moments) e.is v small is
 
   pub folded_at : RowsAreFolded script moments
   folded_at v small is none =
       let e = run_end limit script outcomes moments legal run in
-      rows_folded (SessionKnows (entries_of moments)) script (replies_of outcomes) run.tags e.past e.os (history [] moments) e.stands (known_at limit script outcomes moments legal run e) (entries_of moments) e.is v small is none
+      rows_folded (SessionKnows (entries_of moments)) script (replies_of outcomes) run.tags e.past e.os (history [] moments) e.clock e.stands (known_at limit script outcomes moments legal run e) (entries_of moments) e.is v small is none
 
   pub names_at : NamesPutOnce moments
   names_at = ((run_end limit script outcomes moments legal run).stands).names
@@ -95,39 +102,39 @@ module _ (limit : ℕ) (script : Tag → Option Statement) (outcomes : Tag → O
   pub once_at : CommitsOnce moments
   once_at v w p q small also is there same =
       let e = run_end limit script outcomes moments legal run in
-      once (SessionKnows (entries_of moments)) script (replies_of outcomes) run.tags e.past e.os (history [] moments) e.stands (known_at limit script outcomes moments legal run e) v w p q small also is there same
+      once (SessionKnows (entries_of moments)) script (replies_of outcomes) run.tags e.past e.os (history [] moments) e.clock e.stands (known_at limit script outcomes moments legal run e) v w p q small also is there same
 
   pub first_at : FirstMakesTable script moments
   first_at p is =
       let e = run_end limit script outcomes moments legal run in
-      makes_table (SessionKnows (entries_of moments)) script (replies_of outcomes) run.tags e.past e.os (history [] moments) e.stands (known_at limit script outcomes moments legal run e) p is
+      makes_table (SessionKnows (entries_of moments)) script (replies_of outcomes) run.tags e.past e.os (history [] moments) e.clock e.stands (known_at limit script outcomes moments legal run e) p is
 
   pub commits_at : CommitsRead moments
   commits_at v k small is le =
       let e = run_end limit script outcomes moments legal run in
-      commits_read (SessionKnows (entries_of moments)) script (replies_of outcomes) run.tags e.past e.os (history [] moments) e.stands (known_at limit script outcomes moments legal run e) v k small is le
+      commits_read (SessionKnows (entries_of moments)) script (replies_of outcomes) run.tags e.past e.os (history [] moments) e.clock e.stands (known_at limit script outcomes moments legal run e) v k small is le
 
   pub files_at : FilesRead moments
   files_at v small is =
       let e = run_end limit script outcomes moments legal run in
-      files_read (SessionKnows (entries_of moments)) script (replies_of outcomes) run.tags e.past e.os (history [] moments) e.stands (known_at limit script outcomes moments legal run e) v small is
+      files_read (SessionKnows (entries_of moments)) script (replies_of outcomes) run.tags e.past e.os (history [] moments) e.clock e.stands (known_at limit script outcomes moments legal run e) v small is
 
   pub lands_at : CommitsLand moments
   lands_at v p small is =
       let e = run_end limit script outcomes moments legal run in
-      lands (SessionKnows (entries_of moments)) script (replies_of outcomes) run.tags e.past e.os (history [] moments) e.stands (known_at limit script outcomes moments legal run e) (entries_of moments) e.is v p small is
+      lands (SessionKnows (entries_of moments)) script (replies_of outcomes) run.tags e.past e.os (history [] moments) e.clock e.stands (known_at limit script outcomes moments legal run e) (entries_of moments) e.is v p small is
 
   pub committed_at : RepliesCommitted script (replies_of outcomes) moments
   committed_at t st version read attempts checkpoint is_st is_reply =
       let e = run_end limit script outcomes moments legal run in
-      has_committed (SessionKnows (entries_of moments)) script (replies_of outcomes) run.tags e.past e.os (history [] moments) e.stands (known_at limit script outcomes moments legal run e) (entries_of moments) e.is t st
+      has_committed (SessionKnows (entries_of moments)) script (replies_of outcomes) run.tags e.past e.os (history [] moments) e.clock e.stands (known_at limit script outcomes moments legal run e) (entries_of moments) e.is t st
       is_st version read attempts (claims limit script outcomes moments legal run e t st (CommittedReply version read attempts checkpoint) is_st is_reply)
 
   pub read_at : RepliesRead script (replies_of outcomes) moments
   read_at t st version given read live_files is_st is_reply =
       let e = run_end limit script outcomes moments legal run in
-      has_read (SessionKnows (entries_of moments)) script (replies_of outcomes) run.tags e.past e.os (history [] moments) e.stands (known_at limit script outcomes moments legal run e) (entries_of moments) e.is t
+      has_read (SessionKnows (entries_of moments)) script (replies_of outcomes) run.tags e.past e.os (history [] moments) e.clock e.stands (known_at limit script outcomes moments legal run e) (entries_of moments) e.is t
       version given read live_files (claims limit script outcomes moments legal run e t st (Rows version given read live_files) is_st is_reply)
 
 pub first_is_empty : (moments : List Moment) → FirstIsEmpty moments
-first_is_empty moments = ap (λ (ls : List FileLine). rows_in (rows_of (history [] moments) (schema_at (history [] moments) 0)) (reconciled [] ls)) (empty_first (history [] moments))
+first_is_empty moments = ap (λ (ls : List FileLine). rows_in (rows_of (history [] moments) (meta_at (history [] moments) 0)) (reconciled [] ls)) (empty_first (history [] moments))

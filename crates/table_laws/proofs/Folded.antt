@@ -32,7 +32,7 @@ or_making None = making_of NoRow
 or_making (Some op) = op
 
 module _ (K : Tag → List ℕ → List ℕ → Type 0) (script : Tag → Option Statement) (replies : Tag → Option Reply) (tags : (tag : Tag) (statement : Statement) → script tag ≡ Some statement → IsTag tag)
-    (past : Entries) (os : Objects) (ps : List Put) (s : Stands K script replies tags past os ps) (known : (t : Tag) (n b : List ℕ) → K t n b → InPut ps n b) (journal : Entries) (is_past : past ≡ backwards [] journal) where
+    (past : Entries) (os : Objects) (ps : List Put) (clock : ℕ) (s : Stands K script replies tags past os ps clock) (known : (t : Tag) (n b : List ℕ) → K t n b → InPut ps n b) (journal : Entries) (is_past : past ≡ backwards [] journal) where
   abbrev op_after : ℕ → Operation Scope
   op_after v = or_making (operation_at script journal ps (suc v))
 
@@ -41,14 +41,14 @@ module _ (K : Tag → List ℕ → List ℕ → Type 0) (script : Tag → Option
 
   module _ (top : ℕ) (small : top < 2 ^ 64) (is : IsCommitted ps top) (none : NoneMisses script journal ps top) where
     abbrev facts_of : (k : ℕ) → k < top → Landed passes may (commit_at ps) (rows_of ps) k
-    facts_of = facts K script replies tags past os ps s known top small is
+    facts_of = facts K script replies tags past os ps clock s known top small is
 
     op_there : (k : ℕ) (lt : k < top) → operation_at script journal ps (suc k) ≡ Some (facts_of k lt).op
-    op_there k lt = op_is K script replies tags past os ps s known journal is_past top small is k lt
+    op_there k lt = op_is K script replies tags past os ps clock s known journal is_past top small is k lt
 
     in_order : (k : ℕ) (lt : k < top) → IsInOrder passes may (commit_at ps) (rows_of ps) k (facts_of k lt)
     in_order k lt =
-        let r = read_is K script replies tags past os ps s known journal is_past top small is k lt in
+        let r = read_is K script replies tags past os ps clock s known journal is_past top small is k lt in
         none k lt r.0 r.1 (facts_of k lt).read r.2 (facts_of k lt).op (op_there k lt)
 
     -- both folds are one
@@ -71,4 +71,4 @@ module _ (K : Tag → List ℕ → List ℕ → Type 0) (script : Tag → Option
     rows_folded =
         subst (λ (o : Option (List Row)). SameIfGiven (Some (rows_at ps top)) o) (sym (same_fold top (omega arith)))
         (each_version_is_folded Scope passes may (commit_at ps) (rows_of ps) top facts_of (appended script journal ps) op_after widens (empty_first ps)
-        (is_appended K script replies tags past os ps s known journal is_past top small is) (λ k lt. ap or_making (op_there k lt)) (widen_is K script replies tags past os ps s known journal is_past top small is) in_order top (omega arith))
+        (is_appended K script replies tags past os ps clock s known journal is_past top small is) (λ k lt. ap or_making (op_there k lt)) (widen_is K script replies tags past os ps clock s known journal is_past top small is) in_order top (omega arith))

@@ -12,7 +12,7 @@ use Rattle.table_changes.specs.Conflicts.{Clash}
 use Rattle.table_changes.specs.Operations.{Operation}
 use Rattle.table_laws.specs.Operations.{Scope}
 use Rattle.table_laws.proofs.Sessions.{LoadedTo, KnownKept}
-use Rattle.table_laws.proofs.Lawful.{AllGot, AllScanned, Cleared, Knows}
+use Rattle.table_laws.proofs.Lawful.{AllGot, AllScanned, AllParts, Cleared, Knows}
 
 module _ (G H : List ℕ → List ℕ → Type 0) (more : (n b : List ℕ) → G n b → H n b) where
   pub loaded_more : (v : ℕ) (s : Snapshot) → LoadedTo G v s → LoadedTo H v s
@@ -33,6 +33,12 @@ module _ (G H : List ℕ → List ℕ → Type 0) (more : (n b : List ℕ) → G
   scanned_more (p ∷ ps) [] h = absurd h
   scanned_more (p ∷ ps) (f ∷ fs) h = ((h.0.0, more p h.0.0 h.0.1, h.0.2), scanned_more ps fs h.1)
 
+  pub parts_more : (tag : Tag) (start part : ℕ) (fs : List File) (rows : List Row) → AllParts G tag start part fs rows → AllParts H tag start part fs rows
+  parts_more tag start part [] rows h = h
+  parts_more tag start part (f ∷ fs) rows h =
+      let p = h.3 in
+      (h.0, h.1, h.2, record { small = p.small; is = p.is; body = p.body; known = more _ _ p.known; reads = p.reads }, parts_more tag start (suc part) fs h.1 h.4)
+
   pub cleared_more : (judge : Commit → Option Clash) (k : ℕ) → Cleared G judge k → Cleared H judge k
   cleared_more judge k h = (h.0, more _ _ h.1, h.2)
 
@@ -43,16 +49,16 @@ scanned_push G [] (g ∷ fs) p f h one = absurd h
 scanned_push G (q ∷ ps) [] p f h one = absurd h
 scanned_push G (q ∷ ps) (g ∷ fs) p f h one = (h.0, scanned_push G ps fs p f h.1 one)
 
-pub knows_more : (tag : Tag) (op : Operation Scope) (start read : ℕ) (s : Snapshot) (view : File → List Row) (G S H T : List ℕ → List ℕ → Type 0) (version : ℕ)
+pub knows_more : (tag : Tag) (op : Operation Scope) (start read : ℕ) (s : Snapshot) (view : File → List Row) (added : List File) (G S H T : List ℕ → List ℕ → Type 0) (version : ℕ)
     → ((n b : List ℕ) → G n b → H n b) → ((n b : List ℕ) → S n b → T n b)
-    → Knows tag op start read s view G S version → Knows tag op start read s view H T version
-knows_more tag op start read s view G S H T version more stored k = record {
+    → Knows tag op start read s view added G S version → Knows tag op start read s view added H T version
+knows_more tag op start read s view added G S H T version more stored k = record {
   below = k.below;
   loaded = loaded_more G H more (suc read) s k.loaded;
   files = got_more G H more view _ k.files;
   new = k.new;
   written = k.written;
-  stored = (k.stored.0, stored _ _ k.stored.1, k.stored.2);
+  parts = parts_more S T stored tag start 0 added k.new k.parts;
   previous = (k.previous.0, more _ _ k.previous.1);
   clear = λ n from to. cleared_more G H more _ n (k.clear n from to);
 }

@@ -1,10 +1,8 @@
 -- A put that took effect: what stood before it still stands with it.
 -- It goes through the fields of Stands one by one; the put is a data file, the commit that makes a table, or another commit (MayPut).
 -- Journals cites added.
-use Rattle.std.proofs.Common.{◌≡◌, ◌⊎◌, inl, inr, ℕ, suc, ◌+◌, ◌<◌, ◌^◌, Bool, true, false, List, [], ◌∷◌, ◌++◌, refl, sym, ◌∙◌, ap, subst, arith}
-use Rattle.std.specs.Prelude.{Option, Some, None, if◌then◌else◌}
-use Rattle.std.specs.Str.{bytes_eq}
-use Rattle.std.proofs.lemmas.Slice.Eq.{bytes_eq-Decides}
+use Rattle.std.proofs.Common.{◌≡◌, ◌⊎◌, inl, inr, ℕ, suc, ◌+◌, ◌≤◌, ◌<◌, ◌^◌, List, [], ◌∷◌, ◌++◌, refl, sym, ◌∙◌, ap, subst, arith}
+use Rattle.std.specs.Prelude.{Option, Some, None}
 use Rattle.edge_api.specs.declared.call.Tag.{Tag}
 use Rattle.edge_api.specs.declared.call.Call.TheVariants.{Get, PutNew}
 use Rattle.edge_api.specs.declared.call.Answer.{Answer}
@@ -25,19 +23,21 @@ use Rattle.table_laws.proofs.CommitEffects.{Says}
 use Rattle.table_laws.specs.History.{Put, put_under, body_of}
 use Rattle.table_laws.specs.Runs.{listed_by, told_by, version_put}
 use Rattle.table_laws.proofs.Sessions.{GotIn, StoredIn}
-use Rattle.table_laws.proofs.Lawful.{Known, PutIn, NoPut, FoundMissing, Knows, versions_down, MayPut, IsFile, IsTable, IsCommit}
+use Rattle.table_laws.proofs.Lawful.{Known, PutIn, NotPut, ToldIn, GotBefore, SeenIn, FoundMissing, first_past, Knows, versions_down, MayPut, IsFile, IsTable, IsCommit}
 use Rattle.table_laws.proofs.Known.{knows_more}
 use Rattle.table_laws.proofs.Phases.{same_put}
 use Rattle.table_laws.proofs.Versions.{commit_put}
 use Rattle.table_laws.proofs.Names.{same_file}
-use Rattle.table_laws.proofs.Puts.{or_else, body_at, put_under-push, object_at-with}
-use Rattle.table_laws.proofs.Shown.{InPut, Sure, own_got, stored_now, put_more, put_now, missing_now, one_more, put_of_body, given_more, kept_put, kept_body, old_or_new, one_under, one_itself, suc_same, IsMadeIn, IsPutBy}
+use Rattle.table_laws.proofs.Members.{IsIn, in_with, none_with}
+use Rattle.table_laws.proofs.Puts.{or_else, put_under-push}
+use Rattle.table_laws.proofs.Shown.{InPut, PutBefore, PutAt, PutAs, one_other, Sure, own_got, stored_now, put_more, put_now, missing_now, one_more, put_of_body, given_more, kept_put, kept_body, old_or_new, one_under, one_itself, suc_same, IsMadeIn, IsPutBy}
 use Rattle.table_laws.proofs.Standing.{Committed, IsMade, Stands, put_by_more, commit_more, made_more, new_commit, new_table, not_lost, quiet}
 use Rattle.table_laws.proofs.Puts.{push_once}
+use Rattle.table_laws.proofs.Clocks.{Since, Lists, given_now, since_more, to_later, to_push, rise_push, start_told}
 
 module _ (K : Tag → List ℕ → List ℕ → Type 0) (script : Tag → Option Statement) (replies : Tag → Option Reply) (tags : (tag : Tag) (statement : Statement) → script tag ≡ Some statement → IsTag tag) where
-  module _ (past : Entries) (os : Objects) (ps : List Put) (s : Stands K script replies tags past os ps)
-      (tag : Tag) (name body : List ℕ) (answer : Answer) (clock : ℕ) (statement : Statement) (is_statement : script tag ≡ Some statement) (may : MayPut (K tag) tag statement (own tag past) name body)
+  module _ (past : Entries) (os : Objects) (ps : List Put) (before : ℕ) (s : Stands K script replies tags past os ps before)
+      (tag : Tag) (name body : List ℕ) (answer : Answer) (clock : ℕ) (le : before ≤ clock) (statement : Statement) (is_statement : script tag ≡ Some statement) (may : MayPut (K tag) tag statement (own tag past) name body)
       (free : object_at os name ≡ None) (not_taken : answer ≡ Taken → ⊥) where
     abbrev the_entry : JournalEntry
     the_entry = record { tag = tag; call = PutNew name body; answer = answer }
@@ -66,13 +66,15 @@ module _ (K : Tag → List ℕ → List ℕ → Type 0) (script : Tag → Option
     free_log : (v : ℕ) → name ≡ commit_text v → put_under ps name ≡ None
     free_log v is = ap (λ (n : List ℕ). put_under ps n) is ∙ s.logs v (ap (λ (n : List ℕ). object_at os n) (sym is) ∙ free)
 
-    free_file : (start : ℕ) → name ≡ data_text tag start 0 → NoPut (own tag past) → (o : Option Put) → put_under ps (data_text tag start 0) ≡ o → o ≡ None
-    free_file start is fresh None e = refl
-    free_file start is fresh (Some q) e = let o = s.owned tag start q (tags tag statement is_statement) e in absurd (fresh _ _ _ o.1)
+    free_file : (start part : ℕ) → part < 2 ^ 32 → name ≡ data_text tag start part → NotPut (own tag past) name → (o : Option Put) → put_under ps (data_text tag start part) ≡ o → o ≡ None
+    free_file start part least is fresh None e = refl
+    free_file start part least is fresh (Some q) e =
+        let o = s.owned tag start part q (tags tag statement is_statement) least e in
+        absurd (fresh q.body o.0 (subst (λ (n : List ℕ). PutIn (own tag past) n q.body o.0) (sym is) o.1))
 
     free_by : MayPut (K tag) tag statement (own tag past) name body → put_under ps name ≡ None
-    free_by (IsFile start is fresh) = ap (λ (n : List ℕ). put_under ps n) is ∙ free_file start is fresh (put_under ps (data_text tag start 0)) refl
-    free_by (IsTable spec is_table is text none) = free_log 0 is
+    free_by (IsFile start part started least is fresh) = ap (λ (n : List ℕ). put_under ps n) is ∙ free_file start part least is fresh (put_under ps (data_text tag start part)) refl
+    free_by (IsTable spec started is_table is text none) = free_log 0 is
     free_by (IsCommit k) = free_log (suc k.version) k.is
 
     there_now : put_under more name ≡ Some the_put
@@ -81,47 +83,33 @@ module _ (K : Tag → List ℕ → List ℕ → Type 0) (script : Tag → Option
     which : (n : List ℕ) (q : Put) → put_under more n ≡ Some q → (put_under ps n ≡ Some q) ⊎ ((name ≡ n) × (the_put ≡ q))
     which n q h = elim (old_or_new (put_under ps n) (put_under (the_put ∷ []) n) q (sym (push n) ∙ h)) [ inl old ↦ inl old | inr new ↦ inr (one_under the_put q n new) ]
 
-    object_new : (n : List ℕ) → object_at now n ≡ or_else (object_at os n) (object_at ((name, the_object) ∷ []) n)
-    object_new n = object_at-with os name the_object n free
-
-    add_agree : (n b : List ℕ) → body_at (object_at now n) ≡ Some b → InPut more n b
-    add_agree n b h = by (object_at os n) refl (sym (ap body_at (object_new n)) ∙ h)
-      where
-        new_one : (q : Bool) → bytes_eq name n ≡ q → body_at (if q then Some the_object else None) ≡ Some b → InPut more n b
-        new_one true e h = subst (λ (m : List ℕ). InPut more m b) ((bytes_eq-Decides name n).0 e) (ap body_of there_now ∙ h)
-        new_one false e h = cc
-
-        by : (o : Option Object) → object_at os n ≡ o → body_at (or_else o (object_at ((name, the_object) ∷ []) n)) ≡ Some b → InPut more n b
-        by (Some x) e h = still n b (s.agree n b (ap body_at e ∙ h))
-        by None e h = new_one (bytes_eq name n) refl h
+    add_agree : (n : List ℕ) (o : Object) → IsIn now n o → PutAs more n o
+    add_agree n o h = elim (in_with os name the_object n o h) [
+      | inl new ↦ record { put = the_put; is = ap (λ (m : List ℕ). put_under more m) new.0 ∙ there_now; body = ap (λ (x : Object). x.body) (sym new.1); at = ap (λ (x : Object). x.put_at) (sym new.1) }
+      | inr old ↦ let p = s.agree n o old in record { put = p.put; is = still_put n p.put p.is; body = p.body; at = p.at }
+    ]
 
     add_logs : (v : ℕ) → object_at now (commit_text v) ≡ None → put_under more (commit_text v) ≡ None
-    add_logs v h = by (object_at os (commit_text v)) refl (sym (object_new (commit_text v)) ∙ h)
-      where
-        new_none : (q : Bool) → (if q then Some the_object else None) ≡ None → (if q then Some the_put else None) ≡ None
-        new_none true h = cc
-        new_none false h = refl
+    add_logs v h =
+        let two = none_with os name the_object (commit_text v) h in
+        push (commit_text v) ∙ ap (λ (o : Option Put). or_else o (put_under (the_put ∷ []) (commit_text v))) (s.logs v two.0) ∙ one_other the_put (commit_text v) two.1
 
-        by : (o : Option Object) → object_at os (commit_text v) ≡ o → or_else o (object_at ((name, the_object) ∷ []) (commit_text v)) ≡ None → put_under more (commit_text v) ≡ None
-        by (Some x) e h = cc
-        by None e h = push (commit_text v) ∙ ap (λ (o : Option Put). or_else o (put_under (the_put ∷ []) (commit_text v))) (s.logs v e) ∙ new_none (bytes_eq name (commit_text v)) h
-
-    add_owned : (t : Tag) (start : ℕ) (q : Put) → IsTag t → put_under more (data_text t start 0) ≡ Some q → (a : Answer) × PutIn (own t (the_entry ∷ past)) (data_text t start 0) q.body a
-    add_owned t start q right h = elim (which (data_text t start 0) q h) [
-      | inl old ↦ let o = s.owned t start q right old in (o.0, put_more t the_entry past _ _ _ o.1)
+    add_owned : (t : Tag) (start part : ℕ) (q : Put) → IsTag t → part < 2 ^ 32 → put_under more (data_text t start part) ≡ Some q → (a : Answer) × PutIn (own t (the_entry ∷ past)) (data_text t start part) q.body a
+    add_owned t start part q right small h = elim (which (data_text t start part) q h) [
+      | inl old ↦ let o = s.owned t start part q right small old in (o.0, put_more t the_entry past _ _ _ o.1)
       | inr new ↦
           let whose : tag ≡ t = mine may new.0 in (
             answer,
-            subst (λ (u : Tag). PutIn (own u (the_entry ∷ past)) (data_text t start 0) q.body answer) whose
-                (subst (λ (b : List ℕ). PutIn (own tag (the_entry ∷ past)) (data_text t start 0) b answer) (ap (λ (p : Put). p.body) new.1)
-                (put_now the_entry past (data_text t start 0) body (ap (λ (n : List ℕ). PutNew n body) new.0))),
+            subst (λ (u : Tag). PutIn (own u (the_entry ∷ past)) (data_text t start part) q.body answer) whose
+                (subst (λ (b : List ℕ). PutIn (own tag (the_entry ∷ past)) (data_text t start part) b answer) (ap (λ (p : Put). p.body) new.1)
+                (put_now the_entry past (data_text t start part) body (ap (λ (n : List ℕ). PutNew n body) new.0))),
           )
     ]
       where
-        mine : MayPut (K tag) tag statement (own tag past) name body → name ≡ data_text t start 0 → tag ≡ t
-        mine (IsFile i is fresh) h = same_file tag t i start (tags tag statement is_statement) right (sym is ∙ h)
-        mine (IsTable spec is_table is text none) h = absurd (data_is_no_commit t start 0 0 (sym h ∙ is))
-        mine (IsCommit k) h = absurd (data_is_no_commit t start 0 (suc k.version) (sym h ∙ k.is))
+        mine : MayPut (K tag) tag statement (own tag past) name body → name ≡ data_text t start part → tag ≡ t
+        mine (IsFile i j started least is fresh) h = same_file tag t i start j part (tags tag statement is_statement) right least small (sym is ∙ h)
+        mine (IsTable spec started is_table is text none) h = absurd (data_is_no_commit t start part 0 (sym h ∙ is))
+        mine (IsCommit k) h = absurd (data_is_no_commit t start part (suc k.version) (sym h ∙ k.is))
 
     add_made : (n : List ℕ) (q : Put) → put_under more n ≡ Some q → IsMadeIn (the_entry ∷ past) n q
     add_made n q h = elim (which n q h) [
@@ -169,9 +157,10 @@ module _ (K : Tag → List ℕ → List ℕ → Type 0) (script : Tag → Option
           read = k.read;
           s = k.s;
           view = k.view;
-          says = subst (λ (w : ℕ). Says (suc w) body (effects.effect_of tag k.start k.op k.view (files_in k.s))) two.1 k.says;
-          knows = subst (λ (w : ℕ). Knows tag k.op k.start k.read k.s k.view (Sure K tag more) (InPut more) w) two.1
-              (knows_more tag k.op k.start k.read k.s k.view (Known (K tag) (own tag past)) (StoredIn (own tag past)) (Sure K tag more) (InPut more) k.version
+          added = k.added;
+          says = subst (λ (w : ℕ). Says (suc w) body (effects.effect_of k.op k.view (files_in k.s) k.added)) two.1 k.says;
+          knows = subst (λ (w : ℕ). Knows tag k.op k.start k.read k.s k.view k.added (Sure K tag more) (InPut more) w) two.1
+              (knows_more tag k.op k.start k.read k.s k.view k.added (Known (K tag) (own tag past)) (StoredIn (own tag past)) (Sure K tag more) (InPut more) k.version
               (λ n b h. elim h [ inl before ↦ inl before | inr got ↦ inr (still n b (s.got n b (own_got tag past n b got))) ])
               (λ n b h. let p = s.stored tag n b h in still n b (ap body_of p.is ∙ ap (λ (b : List ℕ). Some b) p.body)) k.knows);
           started = given_more told_by tag the_entry past _ k.started;
@@ -190,7 +179,7 @@ module _ (K : Tag → List ℕ → List ℕ → Type 0) (script : Tag → Option
 
     add_commits : (v : ℕ) (q : Put) → suc v < 2 ^ 64 → put_under more (commit_text (suc v)) ≡ Some q → Committed K script replies tags (the_entry ∷ past) more v q
     add_commits v q small h = elim (which (commit_text (suc v)) q h) [
-      | inl old ↦ let k = s.commits v q small old in commit_more K script replies tags past ps more (the_put ∷ []) the_entry v q refl still (quiet K script replies tags past os ps s tag statement is_statement name body may v q old k) k
+      | inl old ↦ let k = s.commits v q small old in commit_more K script replies tags past ps more (the_put ∷ []) the_entry v q refl still (quiet K script replies tags past os ps before s tag statement is_statement name body may v q old k) k
       | inr new ↦ subst (λ (p : Put). Committed K script replies tags (the_entry ∷ past) more v p) new.1 (this_commit v small new.0)
     ]
 
@@ -198,7 +187,7 @@ module _ (K : Tag → List ℕ → List ℕ → Type 0) (script : Tag → Option
     not_again : (v w : ℕ) (q : Put) → suc v < 2 ^ 64 → suc w < 2 ^ 64 → name ≡ commit_text (suc v) → put_under ps (commit_text (suc w)) ≡ Some q → tag ≡ q.tag → ⊥
     not_again v w q small also is old same =
         let k = (new_commit K script replies tags tag statement (own tag past) name body v small may is).0 in
-        not_lost K script replies tags past os ps s tag statement is_statement name body w q old (s.commits w q also old) same k
+        not_lost K script replies tags past os ps before s tag statement is_statement name body w q old (s.commits w q also old) same k
 
     add_single : (v w : ℕ) (p q : Put) → suc v < 2 ^ 64 → suc w < 2 ^ 64 → put_under more (commit_text (suc v)) ≡ Some p → put_under more (commit_text (suc w)) ≡ Some q → p.tag ≡ q.tag → v ≡ w
     add_single v w p q small also h k same = elim (which (commit_text (suc v)) p h) [
@@ -212,5 +201,67 @@ module _ (K : Tag → List ℕ → List ℕ → Type 0) (script : Tag → Option
       ]
     ]
 
-    pub added : Stands K script replies tags (the_entry ∷ past) now more
-    added = record { agree = add_agree; logs = add_logs; owned = add_owned; made = add_made; missing = add_missing; got = add_got; stored = add_stored; table = add_table; commits = add_commits; names = push_once ps the_put s.names (free_by may); single = add_single }
+    -- it comes after its statement's start
+    add_since : Since (the_entry ∷ past) the_put
+    add_since = by may
+      where
+        from : (start : ℕ) → first_past told_by (own tag past) ≡ Some start → Since (the_entry ∷ past) the_put
+        from start is = record { start = start; started = given_more told_by tag the_entry past start is; before = let old = s.told start (start_told tag past start is) in omega (arith, old, le) }
+
+        by : MayPut (K tag) tag statement (own tag past) name body → Since (the_entry ∷ past) the_put
+        by (IsFile start part started least is fresh) = from start started
+        by (IsTable spec started is_table is text none) = from started.0 started.1
+        by (IsCommit k) = from k.start k.started
+
+    add_told : (time : ℕ) → ToldIn (the_entry ∷ past) time → time ≤ clock
+    add_told time (inl now) = let bad = now.0 in cc
+    add_told time (inr old) = let told = s.told time old in omega (arith, told, le)
+
+    add_lists : (t : Tag) (r : ℕ) → first_past listed_by (own t (the_entry ∷ past)) ≡ Some r → Lists (the_entry ∷ past) more t r
+    add_lists t r h = elim (given_now listed_by t the_entry past r h) [ inl old ↦ on (s.lists t r old) | inr new ↦ absurd (none answer new.1) ]
+      where
+        none : (a : Answer) → listed_by (PutNew name body) a ≡ Some r → ⊥
+        none a k = cc
+
+        on : Lists past ps t r → Lists (the_entry ∷ past) more t r
+        on k = record {
+          start = k.start;
+          started = given_more told_by t the_entry past k.start k.started;
+          later = λ w p above small is. elim (which (commit_text w) p is) [
+            | inl old ↦ k.later w p above small old
+            | inr new ↦
+                let at : clock ≡ p.at = ap (λ (x : Put). x.at) new.1 in
+                let told = s.told k.start (start_told t past k.start k.started) in
+                omega (arith, at, told, le)
+          ];
+        }
+
+    add_got_before : (time : ℕ) (n b : List ℕ) → GotBefore (the_entry ∷ past) time n b → PutBefore more time n b
+    add_got_before time n b (inl now) = let bad = now.0 in cc
+    add_got_before time n b (inr old) = let p = s.got_before time n b old in (p.0, still_put n p.0 p.1, p.2, p.3)
+
+    add_seen : (n : List ℕ) (at : ℕ) → SeenIn (the_entry ∷ past) n at → PutAt more n at
+    add_seen n at (inl now) = let bad = now.2 in cc
+    add_seen n at (inr old) = let p = s.seen n at old in (p.0, still_put n p.0 p.1, p.2)
+
+    pub added : Stands K script replies tags (the_entry ∷ past) now more clock
+    added = record {
+      agree = add_agree;
+      logs = add_logs;
+      owned = add_owned;
+      made = add_made;
+      missing = add_missing;
+      got = add_got;
+      stored = add_stored;
+      table = add_table;
+      commits = add_commits;
+      names = push_once ps the_put s.names (free_by may);
+      single = add_single;
+      told = add_told;
+      times = to_push clock ps the_put (to_later before clock le ps s.times) (omega arith);
+      rising = rise_push before ps the_put s.times le s.rising;
+      since = λ n p h. elim (which n p h) [ inl old ↦ since_more past the_entry p (s.since n p old) | inr new ↦ subst (Since (the_entry ∷ past)) new.1 add_since ];
+      lists = add_lists;
+      got_before = add_got_before;
+      seen = add_seen;
+    }

@@ -11,8 +11,10 @@ pub mod Versions
 pub mod Statements
 pub mod Kept
 pub mod Names
+pub mod Members
 pub mod Puts
 pub mod Shown
+pub mod Clocks
 pub mod Standing
 pub mod Landing
 pub mod Journals
@@ -20,6 +22,7 @@ pub mod Listings
 pub mod Effects
 pub mod Tries
 pub mod Readings
+pub mod Parts
 pub mod Serial
 pub mod Ends
 pub mod Folded
@@ -28,5 +31,6 @@ pub mod Moments
 pub mod Created
 pub mod Views
 pub mod OneSession
+pub mod Starts
 pub mod ViewsMean
 pub mod Run

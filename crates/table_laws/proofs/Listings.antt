@@ -6,6 +6,10 @@ use Rattle.std.specs.List.{starts_with}
 use Rattle.std.specs.Str.{bytes_eq}
 use Rattle.std.proofs.lemmas.Slice.Eq.{bytes_eq-Decides}
 use Rattle.edge_api.specs.declared.call.Tag.{Tag}
+use Rattle.edge_api.specs.declared.call.Call.{Call}
+use Rattle.edge_api.specs.declared.call.Call.TheVariants.{Get, PutNew, Put as Replace, List as ListNames, Delete, Now, Wait}
+use Rattle.edge_api.specs.declared.call.Answer.{Answer}
+use Rattle.edge_api.specs.declared.call.Answer.TheVariants.{Fault, Body, Missing, Stored, Taken, Names, Gone, Time, Waited}
 use Rattle.edge_api.specs.declared.call.Listed.{Listed}
 use Rattle.edge_api.specs.declared.call.Object.{Object}
 use Rattle.edge_api.specs.Journal.{Objects, object_at, listing}
@@ -18,11 +22,12 @@ use Rattle.table_rules.specs.declared.log.LogName.TheVariants as log
 use Rattle.table_rules.proofs.Names.{commit_is_read, only_commit_is_read, commit_is_in_log}
 use Rattle.call_phases.specs.Phases.{Entries}
 use Rattle.statement_calls.specs.Listing.{commit_of, commit_version, later, newest}
-use Rattle.table_laws.specs.History.{Put, put_under}
+use Rattle.table_laws.specs.History.{Put, put_under, IsCommitted}
+use Rattle.table_laws.specs.Runs.{listed_by}
 use Rattle.table_laws.specs.Views.{IsNewest}
-use Rattle.table_laws.proofs.Puts.{body_at}
+use Rattle.table_laws.proofs.Members.{is_in}
 use Rattle.table_laws.proofs.Shown.{some_same}
-use Rattle.table_laws.proofs.Readings.{some_of_body}
+use Rattle.table_laws.proofs.Readings.{is_some}
 use Rattle.table_laws.proofs.Standing.{Stands}
 
 -- a version is among those that are listed
@@ -66,6 +71,28 @@ newest_most (x ∷ l) w (inr there) =
     by : (a : Option ℕ) (b : ℕ) → w ≤ b → (v : ℕ) × (later a (Some b) ≡ Some v) × (w ≤ v)
     by None b le = (b, refl, le)
     by (Some a) b le = (max a b, refl, omega (arith, le))
+
+-- what gives a version read is a listing of the log
+pub given_by : (call : Call) (answer : Answer) (v : ℕ) → listed_by call answer ≡ Some v → (call ≡ ListNames log_prefix) × (listed : List Listed) × (answer ≡ Names listed) × (newest listed ≡ Some v)
+given_by (ListNames prefix) (Names l) v h = by (bytes_eq prefix log_prefix) refl h
+  where
+    by : (c : Bool) → bytes_eq prefix log_prefix ≡ c → (if c then newest l else None) ≡ Some v → (ListNames prefix ≡ ListNames log_prefix) × (listed : List Listed) × (Names l ≡ Names listed) × (newest listed ≡ Some v)
+    by true e k = (ap (λ (n : List ℕ). ListNames n) ((bytes_eq-Decides prefix log_prefix).0 e), l, refl, k)
+    by false e k = cc
+given_by (ListNames prefix) Fault v h = cc
+given_by (ListNames prefix) (Body b) v h = cc
+given_by (ListNames prefix) Missing v h = cc
+given_by (ListNames prefix) Stored v h = cc
+given_by (ListNames prefix) Taken v h = cc
+given_by (ListNames prefix) Gone v h = cc
+given_by (ListNames prefix) (Time t) v h = cc
+given_by (ListNames prefix) Waited v h = cc
+given_by (Get n) answer v h = cc
+given_by (PutNew n b) answer v h = cc
+given_by (Replace n b) answer v h = cc
+given_by (Delete n) answer v h = cc
+given_by Now answer v h = cc
+given_by (Wait t) answer v h = cc
 
 -- a name that reads as a version's is the name of its commit
 commit_only : (n : LogName) (v : ℕ) → commit_of n ≡ Some v → n ≡ log.Commit v
@@ -113,7 +140,7 @@ object_listed (x ∷ os) v small o h = by (bytes_eq x.0 (commit_text v)) refl h 
     by false e h rest = either (starts_with nat_eq x.0 log_prefix) (rest h)
 
 module _ (K : Tag → List ℕ → List ℕ → Type 0) (script : Tag → Option Statement) (replies : Tag → Option Reply) (tags : (tag : Tag) (statement : Statement) → script tag ≡ Some statement → IsTag tag)
-    (past : Entries) (os : Objects) (ps : List Put) (s : Stands K script replies tags past os ps) where
+    (past : Entries) (os : Objects) (ps : List Put) (clock : ℕ) (s : Stands K script replies tags past os ps clock) where
   -- a version whose commit isn't listed has none
   none_put : (v : ℕ) → v < 2 ^ 64 → (HasVersion v (listing os log_prefix) → ⊥) → put_under ps (commit_text v) ≡ None
   none_put v small absent = by (object_at os (commit_text v)) refl
@@ -125,6 +152,9 @@ module _ (K : Tag → List ℕ → List ℕ → Type 0) (script : Tag → Option
   no_some : (v : ℕ) → None ≡ Some v → ⊥
   no_some v h = cc
 
+  there : (v : ℕ) (o : Object) → object_at os (commit_text v) ≡ Some o → IsCommitted ps v
+  there v o is = let p = s.agree (commit_text v) o (is_in os (commit_text v) o is) in is_some (put_under ps (commit_text v)) p.put p.is
+
   pub listing_is_newest : IsNewest ps (newest (listing os log_prefix))
   listing_is_newest = by (newest (listing os log_prefix)) refl
     where
@@ -132,7 +162,7 @@ module _ (K : Tag → List ℕ → List ℕ → Type 0) (script : Tag → Option
       by None is = λ v small. none_put v small (λ there. let m = newest_most (listing os log_prefix) v there in no_some m.0 (sym is ∙ m.1))
       by (Some v) is =
           let o = listed_object os log_prefix v (newest_there (listing os log_prefix) v is) in (
-            some_of_body (put_under ps (commit_text v)) (o.1).body (s.agree (commit_text v) (o.1).body (ap body_at o.2)),
+            there v o.1 o.2,
             λ w more small. none_put w small (λ there.
                 let m = newest_most (listing os log_prefix) w there in
                 let same = some_same m.0 v (sym m.1 ∙ is) in

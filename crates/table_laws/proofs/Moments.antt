@@ -1,6 +1,5 @@
--- What stands at each moment of a run, and what becomes of the put of a commit there.
+-- What becomes of the put of a commit at its moment.
 use Rattle.std.proofs.Common.{◌≡◌, ◌⊎◌, inl, inr, ℕ, Bool, true, false, List, [], ◌∷◌, ◌++◌, refl, sym, ◌∙◌, ap, subst}
-use Rattle.std.proofs.lemmas.List.{append-nil, append_assoc}
 use Rattle.std.specs.Prelude.{Option, Some, None}
 use Rattle.edge_api.specs.declared.call.Tag.{Tag}
 use Rattle.edge_api.specs.declared.call.Call.{Call}
@@ -8,12 +7,11 @@ use Rattle.edge_api.specs.declared.call.Call.TheVariants.{PutNew}
 use Rattle.edge_api.specs.declared.call.Answer.{Answer}
 use Rattle.edge_api.specs.declared.call.Answer.TheVariants.{Fault, Body, Missing, Stored, Taken, Names, Gone, Time, Waited}
 use Rattle.edge_api.specs.declared.call.Object.{Object}
-use Rattle.edge_api.specs.Journal.{Objects, Moment, IsLegal, Answers, answer_of, after_moment, entries_of, object_at, put_new_answer}
+use Rattle.edge_api.specs.Journal.{Moment, IsLegal, Answers, answer_of, after_moment, entries_of, object_at, put_new_answer}
 use Rattle.op_types.specs.declared.statement.Statement.{Statement}
 use Rattle.op_types.specs.declared.reply.Reply.{Reply}
 use Rattle.table_rules.specs.Names.{commit_text}
 use Rattle.table_rules.specs.Told.{IsTag}
-use Rattle.call_phases.specs.Phases.{Entries}
 use Rattle.statement_calls.specs.declared.finish.Finish.{Finish}
 use Rattle.actor_core.specs.Entries.{own}
 use Rattle.table_laws.specs.History.{Put, put_under, puts_of, puts_at, put_if_free, if_done, history}
@@ -21,44 +19,15 @@ use Rattle.table_laws.specs.Runs.{replies_of, IsRun}
 use Rattle.table_laws.proofs.Sessions.{SessionKnows}
 use Rattle.table_laws.specs.Laws.{CommitPut, Wins, Loses, Fails, CommitPutsAreDecided}
 use Rattle.table_laws.proofs.Lawful.{MayPut, LawfulBy}
-use Rattle.table_laws.proofs.Puts.{body_at}
+use Rattle.table_laws.proofs.Members.{is_in}
 use Rattle.table_laws.proofs.Tries.{put_under-behind}
-use Rattle.table_laws.proofs.Shown.{put_of_body}
-use Rattle.table_laws.proofs.Standing.{Stands, Keeps, nothing_stands, lawful_next, keeps_rest, not_own}
-use Rattle.table_laws.proofs.Journals.{call_step}
-use Rattle.table_laws.proofs.Ends.{keeps_answered}
+use Rattle.table_laws.proofs.Standing.{lawful_next, not_own}
+use Rattle.table_laws.proofs.Journals.{StandsAt}
+use Rattle.table_laws.proofs.Ends.{stands_after}
 
 module _ (K : Tag → List ℕ → List ℕ → Type 0) (script : Tag → Option Statement) (replies : Tag → Option Reply) (tags : (tag : Tag) (statement : Statement) → script tag ≡ Some statement → IsTag tag) where
-  -- what stands after some moments, with the rest still to come
-  pub record StandsAt (first : Objects) (puts : List Put) (before rest : List Moment) : Type 0 where
-    pub past : Entries
-    pub os : Objects
-    pub clock : ℕ
-    pub stands : Stands K script replies tags past os (puts ++ history first before)
-    pub legal : IsLegal os clock rest
-    pub keeps : Keeps K script replies tags past (entries_of rest)
-    pub whole : history first (before ++ rest) ≡ history first before ++ history os rest
-
-  pub stands_at : (before rest : List Moment) (past : Entries) (os : Objects) (ps : List Put) (clock : ℕ) → Stands K script replies tags past os ps → IsLegal os clock (before ++ rest)
-      → Keeps K script replies tags past (entries_of (before ++ rest)) → StandsAt os ps before rest
-  stands_at [] rest past os ps clock s legal keeps =
-      record { past = past; os = os; clock = clock; stands = subst (Stands K script replies tags past os) (sym (append-nil ps)) s; legal = legal; keeps = keeps; whole = refl }
-  stands_at (m ∷ before) rest past os ps clock s legal keeps =
-      let next = lawful_next K script replies tags past m.entry (entries_of (before ++ rest)) keeps in
-      let here = call_step K script replies tags past os ps s m.entry.tag m.entry.call m.entry.answer m.clock m.took_effect next.0 next.1 next.2 legal.2 in
-      let r = stands_at before rest (m.entry ∷ past) (after_moment os m) (ps ++ puts_at os m) m.clock here legal.3 (keeps_rest K script replies tags past m.entry (entries_of (before ++ rest)) keeps) in
-      record {
-        past = r.past;
-        os = r.os;
-        clock = r.clock;
-        stands = subst (Stands K script replies tags r.past r.os) (append_assoc ps (puts_at os m) (history (after_moment os m) before)) r.stands;
-        legal = r.legal;
-        keeps = r.keeps;
-        whole = ap (λ (l : List Put). puts_at os m ++ l) r.whole ∙ sym (append_assoc (puts_at os m) (history (after_moment os m) before) (history r.os rest));
-      }
-
   -- the put of a commit at a moment
-  module _ (before rest : List Moment) (m : Moment) (v : ℕ) (body : List ℕ) (is : m.entry.call ≡ PutNew (commit_text v) body) (r : StandsAt [] [] before (m ∷ rest)) where
+  module _ (before rest : List Moment) (m : Moment) (v : ℕ) (body : List ℕ) (is : m.entry.call ≡ PutNew (commit_text v) body) (r : StandsAt K script replies tags [] [] [] 0 before (m ∷ rest)) where
     abbrev the_put : Put
     the_put = record { tag = m.entry.tag; name = commit_text v; body = body; at = m.clock }
 
@@ -114,15 +83,12 @@ module _ (K : Tag → List ℕ → List ℕ → Type 0) (script : Tag → Option
         by (Some o) at answers =
             let next = lawful_next K script replies tags r.past m.entry (entries_of rest) r.keeps in
             let may : MayPut (K m.entry.tag) m.entry.tag next.0 (own m.entry.tag r.past) (commit_text v) body = subst (LawfulBy (K m.entry.tag) m.entry.tag next.0 (own m.entry.tag r.past)) is next.2 in
-            let winner = put_of_body (put_under (history [] before) (commit_text v)) o.body ((r.stands).agree (commit_text v) o.body (ap body_at at)) in
-            Loses winner.0 winner.1 (λ same. not_own K script replies tags r.past r.os (history [] before) r.stands m.entry.tag next.0 next.1 (commit_text v) body may v refl winner.0 winner.1 same)
+            let winner = (r.stands).agree (commit_text v) o (is_in r.os (commit_text v) o at) in
+            Loses winner.put winner.is (λ same. not_own K script replies tags r.past r.os (history [] before) r.clock r.stands m.entry.tag next.0 next.1 (commit_text v) body may v refl winner.put winner.is same)
             (taken_or_fault m.entry.answer answers)
 
 pub puts_at_moments : (limit : ℕ) (script : Tag → Option Statement) (outcomes : Tag → Option Finish) (moments : List Moment) → IsLegal [] 0 moments → IsRun limit script outcomes (entries_of moments) → CommitPutsAreDecided moments
 puts_at_moments limit script outcomes moments legal run before rest m v body parts small is =
-    let K = SessionKnows (entries_of moments) in
-    let keeps = keeps_answered limit script outcomes moments legal run in
-    let here = stands_at K script (replies_of outcomes) run.tags before (m ∷ rest) [] [] [] 0 (nothing_stands K script (replies_of outcomes) run.tags) (subst (IsLegal [] 0) parts legal)
-    (subst (λ (ms : List Moment). Keeps K script (replies_of outcomes) run.tags [] (entries_of ms)) parts keeps) in
-    let found = decided K script (replies_of outcomes) run.tags before rest m v body is here in
+    let here = stands_after limit script outcomes moments legal run before (m ∷ rest) parts in
+    let found = decided (SessionKnows (entries_of moments)) script (replies_of outcomes) run.tags before rest m v body is here in
     subst (λ (ms : List Moment). CommitPut (history [] before) (history [] ms) v body m) (sym parts) found

@@ -38,7 +38,7 @@ use Rattle.statement_calls.specs.Judging.{CommitPlan, Bodies, Judges, verdict_of
 use Rattle.statement_calls.specs.Outcome.{IsOpen, Ends, Replies, refusal_of_attempt}
 use Rattle.table_laws.specs.Runs.{reply_in, or_first, listed_by, told_by}
 use Rattle.table_laws.specs.Refused.{IsUnknown}
-use Rattle.table_laws.proofs.Lawful.{Known, NoPut, IsLost, AllLost, AllInDoubt, ClaimsNothing, first_past, ClaimOf, Claim, MayPut, LawfulBy, AllLawful}
+use Rattle.table_laws.proofs.Lawful.{Known, NoPut, IsLost, AllLost, AllInDoubt, ClaimsNothing, first_past, HasStart, ClaimOf, Claim, MayPut, LawfulBy, AllLawful}
 
 pub get_no_put : (name n b : List ℕ) → Get name ≡ PutNew n b → ⊥
 get_no_put name n b h = cc
@@ -166,11 +166,11 @@ module _ (K : List ℕ → List ℕ → Type 0) (tag : Tag) (statement : Stateme
     on_time e.answer h.1 (λ is f. ended_lost r (e ∷ past) es (lost_other e past (no_commit_put e Now h.0 now_no_put) lost) f) (λ t is n. k t e es h.0 is n),
   )
 
-  pub at_list : (r : Refusal) (prefix : List ℕ) (next : List Listed → Entries → Type 0) (past es : Entries) → AllLost past → AtList (IsOpen out kept) prefix (Ends out kept r) next es
+  pub at_list : (r : Refusal) (prefix : List ℕ) (next : List Listed → Entries → Type 0) (past es : Entries) → HasStart past → AllLost past → AtList (IsOpen out kept) prefix (Ends out kept r) next es
       → ((l : List Listed) (e : JournalEntry) (rest : Entries) → e.call ≡ ListNames prefix → e.answer ≡ Names l → next l rest → Lawful (e ∷ past) rest) → Lawful past es
-  at_list r prefix next past [] lost h k = left_lost past lost h
-  at_list r prefix next past (e ∷ es) lost h k = (
-    subst (LawfulBy K tag statement past) (sym h.0) tt,
+  at_list r prefix next past [] started lost h k = left_lost past lost h
+  at_list r prefix next past (e ∷ es) started lost h k = (
+    subst (LawfulBy K tag statement past) (sym h.0) started,
     on_names e.answer h.1 (λ is f. ended_lost r (e ∷ past) es (lost_other e past (no_commit_put e (ListNames prefix) h.0 (list_no_put prefix)) lost) f) (λ l is n. k l e es h.0 is n),
   )
 

@@ -6,7 +6,6 @@ use Rattle.std.specs.Ordering.{is_lt, nat_cmp}
 use Rattle.std.specs.Cmp.Lexicographic.{slice_cmp}
 use Rattle.std.proofs.lemmas.Slice.Eq.{bytes_eq-Decides}
 use Rattle.row_base.specs.declared.row.ScannedFile.{ScannedFile}
-use Rattle.row_base.specs.Schema.{TableSchema}
 use Rattle.table_rules.specs.Names.{commit_text}
 use Rattle.line_texts.specs.Texts.{columns_of_text}
 use Rattle.snapshot_replay.specs.Table.{Add, Snapshot, table_commit}
@@ -14,7 +13,7 @@ use Rattle.snapshot_replay.specs.Table.{Commit as LogCommit, paths_of as said_pa
 use Rattle.statement_calls.specs.Texts.{read_commit}
 use Rattle.statement_calls.specs.Answered.{rows_of_files}
 use Rattle.table_changes.specs.Rows.{Row}
-use Rattle.table_changes.specs.Table.{File, FileLine, Removes, Adds, without_path, placed, reconciled, times, rows_in, lines_of}
+use Rattle.table_changes.specs.Table.{File, MetaData, FileLine, Removes, Adds, without_path, placed, reconciled, times, rows_in, adds_lines, lines_of}
 use Rattle.table_laws.specs.Commits.{file_of}
 use Rattle.table_laws.specs.History.{Put, put_under, body_of, or_nothing, commit_at, rows_of}
 use Rattle.table_laws.specs.Laws.{FileReads, AllFilesRead}
@@ -36,14 +35,26 @@ pub is_some : (o : Option Put) (p : Put) → o ≡ Some p → IsSome o
 is_some None p h = cc
 is_some (Some q) p h = refl
 
+-- none of these files has the path
+abbrev pub AllApart : List ℕ → List File → Type 0
+AllApart p [] = Unit {0}
+AllApart p (a ∷ fs) = (bytes_eq a.path p ≡ false) × AllApart p fs
+
 -- a path that is not there and not added is not there later
-pub none_more : (p : List ℕ) (stamp : ℕ) (changes : Bool) (gone : List File) (a : File) (fs : List File) → times p fs ≡ 0 → bytes_eq a.path p ≡ false → times p (reconciled fs (lines_of stamp changes gone (a ∷ []))) ≡ 0
-none_more p stamp changes [] a fs none apart =
-    let s = times-placed p a (without_path fs a.path) in
-    let t : times p (without_path fs a.path) ≡ times p fs = times-without_other p a.path fs apart in
-    let u : is_one p a ≡ 0 = ap (λ (b : Bool). if b then 1 else 0) apart in
-    omega arith
-none_more p stamp changes (g ∷ gone) a fs none apart = none_more p stamp changes gone a (without_path fs g.path) (by (bytes_eq g.path p) refl) apart
+none_added : (p : List ℕ) (changes : Bool) (added fs : List File) → times p fs ≡ 0 → AllApart p added → times p (reconciled fs (adds_lines changes added)) ≡ 0
+none_added p changes [] fs none apart = none
+none_added p changes (a ∷ added) fs none apart = none_added p changes added (placed a (without_path fs a.path)) here apart.1
+  where
+    here : times p (placed a (without_path fs a.path)) ≡ 0
+    here =
+        let s = times-placed p a (without_path fs a.path) in
+        let t : times p (without_path fs a.path) ≡ times p fs = times-without_other p a.path fs apart.0 in
+        let u : is_one p a ≡ 0 = ap (λ (b : Bool). if b then 1 else 0) apart.0 in
+        omega (arith, s, t, u, none)
+
+pub none_more : (p : List ℕ) (stamp : ℕ) (changes : Bool) (gone added fs : List File) → times p fs ≡ 0 → AllApart p added → times p (reconciled fs (lines_of stamp changes gone added)) ≡ 0
+none_more p stamp changes [] added fs none apart = none_added p changes added fs none apart
+none_more p stamp changes (g ∷ gone) added fs none apart = none_more p stamp changes gone added (without_path fs g.path) (by (bytes_eq g.path p) refl) apart
   where
     by : (b : Bool) → bytes_eq g.path p ≡ b → times p (without_path fs g.path) ≡ 0
     by true e = subst (λ (n : List ℕ). times p (without_path fs n) ≡ 0) (sym ((bytes_eq-Decides g.path p).0 e)) (times-without_same p fs)
@@ -64,27 +75,29 @@ empty_first ps = by (body_of (put_under ps (commit_text 0)))
 pub same_commit : (a b : LogCommit) → Some a ≡ Some b → a ≡ b
 same_commit a b h = cc
 
-pub same_path : (a b : List ℕ) → Some a ≡ Some b → a ≡ b
-same_path a b h = cc
-
 -- the first path that is added
 abbrev pub first_added : List FileLine → Option (List ℕ)
 first_added [] = None
 first_added (Removes t changes ∷ ls) = first_added ls
 first_added (Adds a changes ∷ ls) = Some a.path
 
-pub added_is : (stamp : ℕ) (changes : Bool) (gone : List File) (a : File) → first_added (lines_of stamp changes gone (a ∷ [])) ≡ Some a.path
-added_is stamp changes [] a = refl
-added_is stamp changes (g ∷ gone) a = added_is stamp changes gone a
+abbrev pub first_path : List File → Option (List ℕ)
+first_path [] = None
+first_path (a ∷ fs) = Some a.path
+
+pub added_is : (stamp : ℕ) (changes : Bool) (gone added : List File) → first_added (lines_of stamp changes gone added) ≡ first_path added
+added_is stamp changes [] [] = refl
+added_is stamp changes [] (a ∷ added) = refl
+added_is stamp changes (g ∷ gone) added = added_is stamp changes gone added
 
 -- the files that were got hold the rows under their paths
-pub scanned_rows : (ps : List Put) (schema : Option TableSchema) (adds : List Add) (fs : List ScannedFile) → AllScanned (InPut ps) (said_paths adds) fs → rows_of_files fs ≡ rows_in (rows_of ps schema) (map file_of adds)
-scanned_rows ps schema [] [] h = refl
-scanned_rows ps schema [] (f ∷ fs) h = absurd h
-scanned_rows ps schema (a ∷ adds) [] h = absurd h
-scanned_rows ps schema (a ∷ adds) (f ∷ fs) h =
-    ap (λ (l : List Row). l ++ rows_of_files fs) (file_is ps schema (file_of a) h.0.0 f.rows h.0.1 h.0.2)
-    ∙ ap (λ (l : List Row). rows_of ps schema (file_of a) ++ l) (scanned_rows ps schema adds fs h.1)
+pub scanned_rows : (ps : List Put) (at : Option MetaData) (adds : List Add) (fs : List ScannedFile) → AllScanned (InPut ps) (said_paths adds) fs → rows_of_files fs ≡ rows_in (rows_of ps at) (map file_of adds)
+scanned_rows ps at [] [] h = refl
+scanned_rows ps at [] (f ∷ fs) h = absurd h
+scanned_rows ps at (a ∷ adds) [] h = absurd h
+scanned_rows ps at (a ∷ adds) (f ∷ fs) h =
+    ap (λ (l : List Row). l ++ rows_of_files fs) (file_is ps at (file_of a) h.0.0 f.rows h.0.1 h.0.2)
+    ∙ ap (λ (l : List Row). rows_of ps at (file_of a) ++ l) (scanned_rows ps at adds fs h.1)
 
 pub scanned_long : (G : List ℕ → List ℕ → Type 0) (paths : List (List ℕ)) (fs : List ScannedFile) → AllScanned G paths fs → length fs ≡ length paths
 scanned_long G [] [] h = refl
@@ -121,7 +134,11 @@ placed_read ps a (b ∷ fs) one h = by (is_lt (slice_cmp nat_cmp b.path a.path))
     by true rest = (h.0, rest)
     by false rest = (one, h)
 
--- files that read, after a commit that adds one that reads
-pub lines_read : (ps : List Put) (stamp : ℕ) (changes : Bool) (gone : List File) (a : File) (fs : List File) → AllFilesRead ps fs → FileReads ps a.name → AllFilesRead ps (reconciled fs (lines_of stamp changes gone (a ∷ [])))
-lines_read ps stamp changes [] a fs h one = placed_read ps a (without_path fs a.path) one (without_read ps a.path fs h)
-lines_read ps stamp changes (g ∷ gone) a fs h one = lines_read ps stamp changes gone a (without_path fs g.path) (without_read ps g.path fs h) one
+-- files that read, after a commit that adds some that read
+adds_read : (ps : List Put) (changes : Bool) (added fs : List File) → AllFilesRead ps fs → AllFilesRead ps added → AllFilesRead ps (reconciled fs (adds_lines changes added))
+adds_read ps changes [] fs h new = h
+adds_read ps changes (a ∷ added) fs h new = adds_read ps changes added (placed a (without_path fs a.path)) (placed_read ps a (without_path fs a.path) new.0 (without_read ps a.path fs h)) new.1
+
+pub lines_read : (ps : List Put) (stamp : ℕ) (changes : Bool) (gone added fs : List File) → AllFilesRead ps fs → AllFilesRead ps added → AllFilesRead ps (reconciled fs (lines_of stamp changes gone added))
+lines_read ps stamp changes [] added fs h new = adds_read ps changes added fs h new
+lines_read ps stamp changes (g ∷ gone) added fs h new = lines_read ps stamp changes gone added (without_path fs g.path) (without_read ps g.path fs h) new

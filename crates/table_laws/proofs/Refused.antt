@@ -45,7 +45,7 @@ pub put_faulted : (t : Tag) (past journal : Entries) (n b : List ℕ) → past �
 put_faulted t past journal n b is h = elim (put_back t [] journal n b Fault (subst (λ (l : Entries). PutIn (own t l) n b Fault) is h)) [ inl none ↦ absurd none | inr put ↦ faulted (own t journal) n b put ]
 
 module _ (K : Tag → List ℕ → List ℕ → Type 0) (script : Tag → Option Statement) (replies : Tag → Option Reply) (tags : (tag : Tag) (statement : Statement) → script tag ≡ Some statement → IsTag tag)
-    (past : Entries) (os : Objects) (ps : List Put) (s : Stands K script replies tags past os ps) where
+    (past : Entries) (os : Objects) (ps : List Put) (clock : ℕ) (s : Stands K script replies tags past os ps clock) where
   -- a commit of a refused statement was answered by a fault
   in_doubt : (t : Tag) (r : Refusal) (version : ℕ) (p : Put) → ClaimsNothing (own t past) r → put_under ps (commit_text version) ≡ Some p → p.tag ≡ t → IsUnknown r × PutIn (own t past) (commit_text version) p.body Fault
   in_doubt t r version p claim is same =
@@ -67,5 +67,5 @@ pub refused_at : (limit : ℕ) (script : Tag → Option Statement) (outcomes : T
 refused_at limit script outcomes moments legal run t st r version p is_st is_reply is same =
     let e = run_end limit script outcomes moments legal run in
     let claim = claims limit script outcomes moments legal run e t st (Refused r) is_st is_reply in
-    let d = in_doubt (SessionKnows (entries_of moments)) script (replies_of outcomes) run.tags e.past e.os (history [] moments) e.stands t r version p claim is same in
+    let d = in_doubt (SessionKnows (entries_of moments)) script (replies_of outcomes) run.tags e.past e.os (history [] moments) e.clock e.stands t r version p claim is same in
     (d.0, put_faulted t e.past (entries_of moments) (commit_text version) p.body e.is d.1)

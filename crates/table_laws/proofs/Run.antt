@@ -4,6 +4,7 @@ use Rattle.table_laws.proofs.Ends.{serial_at, folded_at, names_at, once_at, firs
 use Rattle.table_laws.proofs.Moments.{puts_at_moments}
 use Rattle.table_laws.proofs.Created.{created_at}
 use Rattle.table_laws.proofs.Views.{listing_at, reads_at, covers_at}
+use Rattle.table_laws.proofs.Starts.{starts_at, later_at}
 use Rattle.table_laws.proofs.OneSession.{rows_of_session}
 use Rattle.table_laws.proofs.Refused.{refused_at}
 
@@ -23,6 +24,8 @@ each_run_is_lawful limit script outcomes moments legal run = record {
   covers = covers_at limit script outcomes moments legal run;
   session = rows_of_session limit script outcomes moments legal run;
   names = names_at limit script outcomes moments legal run;
+  starts = starts_at limit script outcomes moments legal run;
+  later = later_at limit script outcomes moments legal run;
   created = created_at limit script outcomes moments legal run;
   committed = committed_at limit script outcomes moments legal run;
   read = read_at limit script outcomes moments legal run;

@@ -1,14 +1,10 @@
 -- Each committed version follows from the one before.
-use Rattle.std.proofs.Common.{◌≡◌, ◌⊎◌, inl, inr, ℕ, zero, suc, ◌+◌, ◌-◌, ◌≤◌, ◌<◌, ◌^◌, Bool, true, false, not, List, [], ◌∷◌, length, refl, sym, ◌∙◌, ap, subst, arith}
+use Rattle.std.proofs.Common.{◌≡◌, ◌⊎◌, inl, inr, ℕ, zero, suc, ◌+◌, ◌-◌, ◌≤◌, ◌<◌, ◌^◌, not, List, [], ◌∷◌, length, refl, sym, ◌∙◌, ap, subst, arith}
 use Rattle.std.specs.Prelude.{Option, Some, None, option_map, option_and_then}
-use Rattle.std.specs.Str.{bytes_eq}
-use Rattle.std.proofs.lemmas.List.{append-nil}
-use Rattle.std.proofs.lemmas.Slice.Eq.{bytes_eq-Decides}
 use Rattle.edge_api.specs.declared.call.Tag.{Tag}
 use Rattle.edge_api.specs.Journal.{Objects}
 use Rattle.row_base.specs.Sorting.{Sorts}
 use Rattle.row_base.specs.Bags.{count_of, SameRows}
-use Rattle.row_base.specs.Schema.{TableSchema}
 use Rattle.op_types.specs.declared.statement.Statement.{Statement}
 use Rattle.op_types.specs.declared.reply.Reply.{Reply}
 use Rattle.table_rules.specs.Names.{commit_text, data_text}
@@ -18,40 +14,41 @@ use Rattle.line_texts.proofs.Laws.{columns_read_back}
 use Rattle.snapshot_replay.specs.Table.{table_commit}
 use Rattle.snapshot_replay.specs.Table.{Commit as LogCommit, paths_of as said_paths}
 use Rattle.call_phases.specs.Phases.{Entries}
-use Rattle.statement_calls.specs.Texts.{read_commit, read_file}
+use Rattle.statement_calls.specs.Texts.{read_commit}
 use Rattle.statement_calls.specs.Answered.{names_of, rows_of_files}
 use Rattle.actor_core.specs.Entries.{own}
 use Rattle.table_changes.specs.Rows.{Row}
-use Rattle.table_changes.specs.Table.{File, FileLine, Meta, Commit, newer, reconciled, schema_of, times, rows_in}
+use Rattle.table_changes.specs.Table.{File, MetaData, FileLine, Commit, newer, is_blind, reconciled, times, rows_in}
 use Rattle.table_changes.specs.Conflicts.{first_clash}
 use Rattle.table_changes.specs.Operations.{Operation, IsSound, got_files, taken_files, reads_of}
-use Rattle.table_changes.specs.Laws.{Landed, Appends}
+use Rattle.table_changes.specs.Laws.{AllHold, Landed, Appends}
 use Rattle.table_changes.proofs.Winners.{each_version_is_serial}
-use Rattle.table_laws.specs.Commits.{changes_of, files_in, meta_in}
+use Rattle.table_laws.specs.Commits.{changes_of, schema_of, files_in, meta_in}
 use Rattle.table_laws.specs.Operations.{Scope, passes, may, operation_of}
 use Rattle.table_laws.specs.History.{Put, put_under, body_of, commit_at, live_at, meta_at, schema_at, level_for, rows_of, rows_at, IsCommitted}
 use Rattle.table_laws.specs.Runs.{listed_by, version_read}
-use Rattle.table_laws.specs.Laws.{schema_read, operation_by, operation_at, inserted_by, appended, Step, versions_from, IsWonBefore, Lands, HasCommitted, HasRead, MakesTable, ReadsAt, FileReads, AllFilesRead}
+use Rattle.table_laws.specs.Laws.{schema_read, operation_by, operation_at, inserted_by, appended, Step, versions_from, IsWonBefore, Lands, HasCommitted, HasRead, MakesTable, ReadsAt, AllFilesRead}
 use Rattle.table_laws.proofs.Sessions.{GotIn, StoredIn}
-use Rattle.table_laws.proofs.CommitEffects.{new_file, effect_of, Says, judge_of}
+use Rattle.table_laws.proofs.CommitEffects.{effect_of, Says, judge_of}
 use Rattle.table_laws.proofs.Sound.{each_operation_is_sound, says_truly}
-use Rattle.table_laws.proofs.Lawful.{Known, AllGot, Knows, ClaimsCommit, ClaimsRows}
+use Rattle.table_laws.proofs.Lawful.{Known, AllGot, Knows, IsOwn, ClaimsCommit, ClaimsRows}
 use Rattle.table_laws.proofs.Known.{loaded_more, knows_more, scanned_more}
 use Rattle.table_laws.proofs.Tries.{put_in_order, put_under-front}
 use Rattle.table_laws.proofs.Names.{same_file}
 use Rattle.table_laws.proofs.Shown.{InPut, Sure, backwards, given_is, own_got, put_of_body, some_same}
 use Rattle.table_laws.proofs.Standing.{Stands, Committed, no_later}
-use Rattle.table_laws.proofs.Effects.{file_is, commit_is, said_is, loaded_files, loaded_meta, same_written, same_effect, same_judge}
-use Rattle.table_laws.proofs.Readings.{some_put, some_of_body, is_some, none_more, empty_first, same_commit, same_path, first_added, added_is, scanned_rows, scanned_long, length-paths, length-files, first_loaded, lines_read}
+use Rattle.table_laws.proofs.Effects.{commit_is, said_is, loaded_files, loaded_meta, same_written, same_effect, same_judge}
+use Rattle.table_laws.proofs.Parts.{parts_rows, parts_read, parts_apart, parts_new, parts_owner}
+use Rattle.table_laws.proofs.Readings.{some_put, some_of_body, is_some, none_more, empty_first, same_commit, first_added, first_path, added_is, scanned_rows, scanned_long, length-paths, length-files, first_loaded, lines_read}
 
 module _ (K : Tag → List ℕ → List ℕ → Type 0) (script : Tag → Option Statement) (replies : Tag → Option Reply) (tags : (tag : Tag) (statement : Statement) → script tag ≡ Some statement → IsTag tag)
-    (past : Entries) (os : Objects) (ps : List Put) (s : Stands K script replies tags past os ps) (known : (t : Tag) (n b : List ℕ) → K t n b → InPut ps n b) where
+    (past : Entries) (os : Objects) (ps : List Put) (clock : ℕ) (s : Stands K script replies tags past os ps clock) (known : (t : Tag) (n b : List ℕ) → K t n b → InPut ps n b) where
   sure : (t : Tag) (n b : List ℕ) → Sure K t ps n b → InPut ps n b
   sure t n b (inl before) = known t n b before
   sure t n b (inr put) = put
 
-  knows : (v : ℕ) (p : Put) (k : Committed K script replies tags past ps v p) → Knows p.tag k.op k.start k.read k.s k.view (InPut ps) (InPut ps) v
-  knows v p k = knows_more p.tag k.op k.start k.read k.s k.view (Sure K p.tag ps) (InPut ps) (InPut ps) (InPut ps) v (sure p.tag) (λ n b h. h) k.knows
+  knows : (v : ℕ) (p : Put) (k : Committed K script replies tags past ps v p) → Knows p.tag k.op k.start k.read k.s k.view k.added (InPut ps) (InPut ps) v
+  knows v p k = knows_more p.tag k.op k.start k.read k.s k.view k.added (Sure K p.tag ps) (InPut ps) (InPut ps) (InPut ps) v (sure p.tag) (λ n b h. h) k.knows
 
   one_below : (n : ℕ) → suc n < 2 ^ 64 → IsCommitted ps (suc n) → IsCommitted ps n
   one_below n small is =
@@ -73,7 +70,7 @@ module _ (K : Tag → List ℕ → List ℕ → Type 0) (script : Tag → Option
     abbrev k : Committed K script replies tags past ps v p
     k = s.commits v p small is
 
-    abbrev known_of : Knows p.tag k.op k.start k.read k.s k.view (InPut ps) (InPut ps) v
+    abbrev known_of : Knows p.tag k.op k.start k.read k.s k.view k.added (InPut ps) (InPut ps) v
     known_of = knows v p k
 
     -- the version that it read is the one that it loaded
@@ -84,7 +81,7 @@ module _ (K : Tag → List ℕ → List ℕ → Type 0) (script : Tag → Option
     meta_is = loaded_meta ps k.read k.s known_of.loaded
 
     is_op : operation_of (schema_at ps k.read) k.statement ≡ Some k.op
-    is_op = ap (λ (m : Option Meta). operation_of (schema_of m) k.statement) (sym meta_is) ∙ k.is_op
+    is_op = ap (λ (m : Option MetaData). operation_of (schema_of m) k.statement) (sym meta_is) ∙ k.is_op
 
     sound : IsSound passes may k.op
     sound = each_operation_is_sound (schema_at ps k.read) k.statement k.op is_op
@@ -93,47 +90,43 @@ module _ (K : Tag → List ℕ → List ℕ → Type 0) (script : Tag → Option
     files = subst (λ (fs : List File). AllGot (InPut ps) k.view (got_files k.op fs)) base_is known_of.files
 
     abbrev rows : File → List Row
-    rows = rows_of ps (schema_at ps k.read)
+    rows = rows_of ps (meta_at ps k.read)
 
     -- what the commit says
-    says : commit_at ps (suc v) ≡ effect_of p.tag k.start k.op rows (live_at ps k.read)
+    says : commit_at ps (suc v) ≡ effect_of k.op rows (live_at ps k.read) k.added
     says =
-        said_is ps (suc v) p.body (effect_of p.tag k.start k.op k.view (files_in k.s)) (ap body_of is) k.says
-        ∙ ap (λ (fs : List File). effect_of p.tag k.start k.op k.view fs) base_is
-        ∙ same_effect ps (schema_at ps k.read) k.op sound k.view (live_at ps k.read) files p.tag k.start
+        said_is ps (suc v) p.body (effect_of k.op k.view (files_in k.s) k.added) (ap body_of is) k.says
+        ∙ ap (λ (fs : List File). effect_of k.op k.view fs k.added) base_is
+        ∙ same_effect ps (meta_at ps k.read) k.op sound k.view (live_at ps k.read) files k.added
 
-    -- the new rows, which its file holds
+    -- the new rows, which its new files hold
     written : k.op.writes rows (live_at ps k.read) ≡ Some known_of.new
     written =
-        sym (same_written ps (schema_at ps k.read) k.op sound k.view (live_at ps k.read) files)
+        sym (same_written ps (meta_at ps k.read) k.op sound k.view (live_at ps k.read) files)
         ∙ ap (λ (fs : List File). k.op.writes k.view fs) (sym base_is) ∙ known_of.written
 
-    filled : (schema : Option TableSchema) → SameRows (rows_in (rows_of ps schema) (new_file p.tag k.start ∷ [])) known_of.new
-    filled schema x =
-        let stored = known_of.stored in
-        ap (λ (l : List Row). count_of x l) (append-nil (rows_of ps schema (new_file p.tag k.start)) ∙ sym (file_is ps schema (new_file p.tag k.start) stored.0 known_of.new stored.1 stored.2))
+    filled : (at : Option MetaData) → SameRows (rows_in (rows_of ps at) k.added) known_of.new
+    filled at x = ap (λ (l : List Row). count_of x l) (parts_rows ps at p.tag k.start 0 k.added known_of.new known_of.parts)
 
     right : IsTag p.tag
     right = tags p.tag k.statement k.is_statement
 
   -- a file isn't there before its statement's commit
-  fresh : (n : ℕ) → n < 2 ^ 64 → IsCommitted ps n → (tag : Tag) (start : ℕ) → IsTag tag → ((w : ℕ) (q : Put) → w < n → put_under ps (commit_text (suc w)) ≡ Some q → q.tag ≡ tag → ⊥) → times (data_text tag start 0) (live_at ps n) ≡ 0
-  fresh zero small is tag start right_tag none = subst (λ (ls : List FileLine). times (data_text tag start 0) (reconciled [] ls) ≡ 0) (sym (empty_first ps)) refl
-  fresh (suc n) small is tag start right_tag none =
+  fresh : (n : ℕ) → n < 2 ^ 64 → IsCommitted ps n → (tag : Tag) (start part : ℕ) → IsTag tag → part < 2 ^ 32 → ((w : ℕ) (q : Put) → w < n → put_under ps (commit_text (suc w)) ≡ Some q → q.tag ≡ tag → ⊥) → times (data_text tag start part) (live_at ps n) ≡ 0
+  fresh zero small is tag start part right_tag least none = subst (λ (ls : List FileLine). times (data_text tag start part) (reconciled [] ls) ≡ 0) (sym (empty_first ps)) refl
+  fresh (suc n) small is tag start part right_tag least none =
       let two = some_put (put_under ps (commit_text (suc n))) is in
       let k = s.commits n two.0 small two.1 in
-      let rest = fresh n (omega arith) (one_below n small is) tag start right_tag (λ w q lt. none w q (omega arith)) in
-      subst (λ (t : Commit). times (data_text tag start 0) (reconciled (live_at ps n) t.lines) ≡ 0) (sym (says n two.0 small two.1))
-      (none_more (data_text tag start 0) 0 (not k.op.moves) (taken_files (rows_of ps (schema_at ps k.read)) k.op (live_at ps k.read)) (new_file two.0.tag k.start) (live_at ps n) rest
-      (apart two.0.tag k.start tag start (right n two.0 small two.1) right_tag (bytes_eq (data_text two.0.tag k.start 0) (data_text tag start 0)) refl (none n two.0 (omega arith) two.1)))
-    where
-      apart : (a : Tag) (i : ℕ) (b : Tag) (j : ℕ) → IsTag a → IsTag b → (q : Bool) → bytes_eq (data_text a i 0) (data_text b j 0) ≡ q → (a ≡ b → ⊥) → q ≡ false
-      apart a i b j is also false e ne = refl
-      apart a i b j is also true e ne = absurd (ne (same_file a b i j is also ((bytes_eq-Decides (data_text a i 0) (data_text b j 0)).0 e)))
+      let rest = fresh n (omega arith) (one_below n small is) tag start part right_tag least (λ w q lt. none w q (omega arith)) in
+      let whose = right n two.0 small two.1 in
+      subst (λ (t : Commit). times (data_text tag start part) (reconciled (live_at ps n) t.lines) ≡ 0) (sym (says n two.0 small two.1))
+      (none_more (data_text tag start part) 0 (not k.op.moves) (taken_files (rows_of ps (meta_at ps k.read)) k.op (live_at ps k.read)) k.added (live_at ps n) rest
+      (parts_apart (InPut ps) two.0.tag k.start whose 0 k.added (knows n two.0 k).new (knows n two.0 k).parts (data_text tag start part)
+      (λ i le small_part same. none n two.0 (omega arith) two.1 (same_file two.0.tag tag k.start start i part whose right_tag small_part least same))))
 
   -- no version between clashes
   cleared : (v : ℕ) (p : Put) (small : suc v < 2 ^ 64) (is : put_under ps (commit_text (suc v)) ≡ Some p) (n : ℕ) → (s.commits v p small is).read ≤ n → n < v
-      → (let k = s.commits v p small is in first_clash (reads_of passes may (level_for ps k.op k.read) None (rows_of ps (schema_at ps k.read)) k.op (live_at ps k.read)) (commit_at ps (suc n)) ≡ None)
+      → (let k = s.commits v p small is in first_clash (reads_of passes may (level_for ps k.op k.read) None (rows_of ps (meta_at ps k.read)) k.op (live_at ps k.read)) (commit_at ps (suc n)) ≡ None)
   cleared v p small is n from to =
       let k = s.commits v p small is in
       let q = (knows v p k).clear n from to in
@@ -142,12 +135,17 @@ module _ (K : Tag → List ℕ → List ℕ → Type 0) (script : Tag → Option
       let same : there.0.body ≡ q.0 = some_same there.0.body q.0 (sym (ap body_of there.1) ∙ q.1) in
       let t : LogCommit = (c.says).0 in
       let reads : read_commit (suc n) q.0 ≡ Some t = ap (read_commit (suc n)) (sym same) ∙ (c.says).1 in
-      let schema = schema_at ps k.read in
-      ap (λ (said : Commit). first_clash (reads_of passes may (level_for ps k.op k.read) None (rows_of ps schema) k.op (live_at ps k.read)) said) (commit_is ps (suc n) q.0 t q.1 reads)
-      ∙ sym (same_judge ps schema k.op (sound v p small is) k.view (live_at ps k.read) (files v p small is) (meta_at ps k.read) t)
-      ∙ ap (λ (m : Option Meta). judge_of m k.op k.view (live_at ps k.read) t) (sym (meta_is v p small is))
+      let seen = meta_at ps k.read in
+      ap (λ (said : Commit). first_clash (reads_of passes may (level_for ps k.op k.read) None (rows_of ps seen) k.op (live_at ps k.read)) said) (commit_is ps (suc n) q.0 t q.1 reads)
+      ∙ sym (same_judge ps seen k.op (sound v p small is) k.view (live_at ps k.read) (files v p small is) (meta_at ps k.read) t)
+      ∙ ap (λ (m : Option MetaData). judge_of m k.op k.view (live_at ps k.read) t) (sym (meta_is v p small is))
       ∙ ap (λ (fs : List File). judge_of (meta_in k.s) k.op k.view fs t) (sym (base_is v p small is))
       ∙ q.2 t reads
+
+  -- what files say of their rows is true
+  all_hold : (v : ℕ) (fs : List File) → AllHold passes may (commit_at ps) (rows_of ps) (suc v) fs
+  all_hold v [] = tt
+  all_hold v (f ∷ fs) = (λ o out x has. says_truly f (rows_of ps (meta_at ps (suc v)) f) o out x has, all_hold v fs)
 
   landed : (v : ℕ) (p : Put) (small : suc v < 2 ^ 64) → put_under ps (commit_text (suc v)) ≡ Some p → Landed passes may (commit_at ps) (rows_of ps) v
   landed v p small is = record {
@@ -157,20 +155,17 @@ module _ (K : Tag → List ℕ → List ℕ → Type 0) (script : Tag → Option
     below = (knows v p (s.commits v p small is)).below;
     new = (knows v p (s.commits v p small is)).new;
     written = written v p small is;
-    added = new_file p.tag (s.commits v p small is).start ∷ [];
-    filled = filled v p small is (schema_at ps (suc v));
+    added = (s.commits v p small is).added;
+    filled = filled v p small is (meta_at ps (suc v));
     widen = λ x. x;
-    widens = inl (record { same = ap (λ (t : Commit). schema_of (newer (meta_at ps v) t.meta)) (says v p small is); still = λ x. refl });
+    widens = inl (record { same = ap (λ (t : Commit). rows_of ps (newer (meta_at ps v) t.meta)) (says v p small is); still = λ x. refl });
     stamp = 0;
     lines = ap (λ (t : Commit). t.lines) (says v p small is);
-    blind = ap (λ (t : Commit). t.blind) (says v p small is);
-    fresh = (
-      fresh v (omega arith) (one_below v small (is_some (put_under ps (commit_text (suc v))) p is)) p.tag (s.commits v p small is).start (right v p small is)
-          (λ w q lt there same. let e = s.single w v q p (omega arith) small there is same in let lt' : w < v = lt in absurd (omega arith)),
-      refl,
-      tt,
-    );
-    holds = (λ o out x has. says_truly (new_file p.tag (s.commits v p small is).start) (rows_of ps (schema_at ps (suc v)) (new_file p.tag (s.commits v p small is).start)) o out x has, tt);
+    blind = ap (λ (t : Commit). is_blind t) (says v p small is);
+    fresh = parts_new (InPut ps) p.tag (s.commits v p small is).start (right v p small is) 0 (s.commits v p small is).added (knows v p (s.commits v p small is)).new (knows v p (s.commits v p small is)).parts (live_at ps v)
+        (λ i le least. fresh v (omega arith) (one_below v small (is_some (put_under ps (commit_text (suc v))) p is)) p.tag (s.commits v p small is).start i (right v p small is) least
+        (λ w q lt there same. let e = s.single w v q p (omega arith) small there is same in let lt' : w < v = lt in absurd (omega arith)));
+    holds = all_hold v (s.commits v p small is).added;
     txn = None;
     txns = ap (λ (t : Commit). t.txns) (says v p small is);
     above = λ app n set. cc;
@@ -209,12 +204,9 @@ module _ (K : Tag → List ℕ → List ℕ → Type 0) (script : Tag → Option
   files_read (suc v) small is =
       let two = some_put (put_under ps (commit_text (suc v))) is in
       let c = s.commits v two.0 small two.1 in
-      let stored = (knows v two.0 c).stored in
-      let file = put_of_body (put_under ps (data_text (two.0).tag c.start 0)) stored.0 stored.1 in
-      let same : stored.0 ≡ (file.0).body = some_same stored.0 (file.0).body (sym stored.1 ∙ ap body_of file.1) in
-      let reads : FileReads ps (data_text (two.0).tag c.start 0) = (file.0, file.1, (knows v two.0 c).new, ap read_file (sym same) ∙ stored.2) in
+      let reads = parts_read ps two.0.tag c.start 0 c.added (knows v two.0 c).new (knows v two.0 c).parts in
       subst (λ (t : Commit). AllFilesRead ps (reconciled (live_at ps v) t.lines)) (sym (says v two.0 small two.1))
-      (lines_read ps 0 (not c.op.moves) (taken_files (rows_of ps (schema_at ps c.read)) c.op (live_at ps c.read)) (new_file (two.0).tag c.start) (live_at ps v) (files_read v (omega (arith, small)) (one_below v small is)) reads)
+      (lines_read ps 0 (not c.op.moves) (taken_files (rows_of ps (meta_at ps c.read)) c.op (live_at ps c.read)) c.added (live_at ps v) (files_read v (omega (arith, small)) (one_below v small is)) reads)
 
   commit_put : (n : ℕ) → n < 2 ^ 64 → IsCommitted ps n → (k : ℕ) → k < n → (p : Put) × (put_under ps (commit_text (suc k)) ≡ Some p)
   commit_put n small is k lt = some_put (put_under ps (commit_text (suc k))) (below n small is (suc k) (omega arith))
@@ -307,16 +299,16 @@ module _ (K : Tag → List ℕ → List ℕ → Type 0) (script : Tag → Option
 
     -- a commit whose text names a statement's file is this statement's
     same_owner : (t : Tag) (st : Statement) → script t ≡ Some st → (w : ℕ) (q : Put) → suc w < 2 ^ 64 → put_under ps (commit_text (suc w)) ≡ Some q
-        → (start : ℕ) (op : Operation Scope) (view : File → List Row) (fs : List File) → Says (suc w) q.body (effect_of t start op view fs) → q.tag ≡ t
-    same_owner t st is_st w q small is start op view fs says =
+        → (start : ℕ) (op : Operation Scope) (view : File → List Row) (fs added : List File) → IsOwn t start added → Says (suc w) q.body (effect_of op view fs added) → q.tag ≡ t
+    same_owner t st is_st w q small is start op view fs added own says =
         let k = s.commits w q small is in
-        let theirs = effect_of q.tag k.start k.op k.view (files_in k.s) in
-        let mine = effect_of t start op view fs in
+        let theirs = effect_of k.op k.view (files_in k.s) k.added in
+        let mine = effect_of op view fs added in
         let same : theirs ≡ mine = sym (k.says).2 ∙ ap changes_of (same_commit (k.says).0 says.0 (sym (k.says).1 ∙ says.1)) ∙ says.2 in
-        let names : Some (data_text q.tag k.start 0) ≡ Some (data_text t start 0) =
-        sym (added_is 0 (not k.op.moves) (taken_files k.view k.op (files_in k.s)) (new_file q.tag k.start)) ∙ ap (λ (x : Commit). first_added x.lines) same
-        ∙ added_is 0 (not op.moves) (taken_files view op fs) (new_file t start) in
-        same_file q.tag t k.start start (tags q.tag k.statement k.is_statement) (tags t st is_st) (same_path (data_text q.tag k.start 0) (data_text t start 0) names)
+        let first : first_path k.added ≡ Some (data_text t start own.part) =
+        sym (added_is 0 (not k.op.moves) (taken_files k.view k.op (files_in k.s)) k.added) ∙ ap (λ (x : Commit). first_added x.lines) same
+        ∙ added_is 0 (not op.moves) (taken_files view op fs) added ∙ ap first_path own.is in
+        parts_owner (InPut ps) q.tag k.start (tags q.tag k.statement k.is_statement) 0 k.added (knows w q k).new (knows w q k).parts t start own.part (tags t st is_st) own.small first
 
     -- what the reply of a commit claims
     pub has_committed : (t : Tag) (st : Statement) → script t ≡ Some st → (version read attempts : ℕ) → ClaimsCommit t (own t past) version read attempts → HasCommitted journal ps t version read attempts
@@ -326,9 +318,9 @@ module _ (K : Tag → List ℕ → List ℕ → Type 0) (script : Tag → Option
         got_back w same q is body =
             let small : suc w < 2 ^ 64 = subst (λ (n : ℕ). n < 2 ^ 64) same c.small in
             let there : put_under ps (commit_text (suc w)) ≡ Some q = ap (λ (n : ℕ). put_under ps (commit_text n)) (sym same) ∙ is in
-            let mine = effect_of t c.start c.op c.view (files_in c.s) in
+            let mine = effect_of c.op c.view (files_in c.s) c.added in
             let says : Says (suc w) q.body mine = subst (λ (b : List ℕ). Says (suc w) b mine) (sym body) (subst (λ (n : ℕ). Says n c.body mine) same c.says) in
-            same_owner t st is_st w q small there c.start c.op c.view (files_in c.s) says
+            same_owner t st is_st w q small there c.start c.op c.view (files_in c.s) c.added c.own says
 
         by_there : StoredIn (own t past) (commit_text version) c.body ⊎ GotIn (own t past) (commit_text version) c.body → (q : Put) × (put_under ps (commit_text version) ≡ Some q) × (q.tag ≡ t)
         by_there (inl kept) = let b = s.stored t (commit_text version) c.body kept in (b.put, b.is, b.tag)
@@ -350,8 +342,8 @@ module _ (K : Tag → List ℕ → List ℕ → Type 0) (script : Tag → Option
         let loaded = loaded_more (Known (K t) (own t past)) (InPut ps) more (suc version) c.s c.loaded in
         let scanned = scanned_more (Known (K t) (own t past)) (InPut ps) more (said_paths (c.s).files) c.got c.scanned in
         let base : files_in c.s ≡ live_at ps version = loaded_files ps version c.s loaded in
-        let schema = schema_at ps version in
-        let rows : rows_of_files c.got ≡ rows_at ps version = scanned_rows ps schema (c.s).files c.got scanned ∙ ap (λ (fs : List File). rows_in (rows_of ps schema) fs) base in
+        let seen = meta_at ps version in
+        let rows : rows_of_files c.got ≡ rows_at ps version = scanned_rows ps seen (c.s).files c.got scanned ∙ ap (λ (fs : List File). rows_in (rows_of ps seen) fs) base in
         let q = put_of_body (put_under ps (commit_text version)) loaded.1 loaded.4 in
         let same : (q.0).body ≡ loaded.1 = some_same (q.0).body loaded.1 (sym (ap body_of q.1) ∙ loaded.4) in
         let long : length c.got ≡ length (live_at ps version) = scanned_long (InPut ps) (said_paths (c.s).files) c.got scanned ∙ length-paths (c.s).files ∙ ap (λ (fs : List File). length fs) base in

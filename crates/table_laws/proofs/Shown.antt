@@ -1,5 +1,5 @@
 -- What entries show that are listed the newest first, and what was put.
-use Rattle.std.proofs.Common.{◌≡◌, ◌⊎◌, inl, inr, ℕ, suc, Bool, true, false, List, [], ◌∷◌, ◌++◌, refl, sym, ◌∙◌, ap, subst, arith}
+use Rattle.std.proofs.Common.{◌≡◌, ◌⊎◌, inl, inr, ℕ, suc, ◌≤◌, Bool, true, false, List, [], ◌∷◌, ◌++◌, refl, sym, ◌∙◌, ap, subst, arith}
 use Rattle.std.proofs.lemmas.List.{append_assoc}
 use Rattle.std.specs.Prelude.{Option, Some, None, if◌then◌else◌}
 use Rattle.std.specs.Str.{bytes_eq}
@@ -10,6 +10,7 @@ use Rattle.edge_api.specs.declared.call.Call.TheVariants.{Get, PutNew}
 use Rattle.edge_api.specs.declared.call.Answer.{Answer}
 use Rattle.edge_api.specs.declared.call.Answer.TheVariants.{Fault, Body, Missing, Stored, Taken, Names, Gone, Time, Waited}
 use Rattle.edge_api.specs.declared.call.JournalEntry.{JournalEntry}
+use Rattle.edge_api.specs.declared.call.Object.{Object}
 use Rattle.edge_api.specs.Journal.{Objects, same_tag, after_answer}
 use Rattle.call_phases.specs.Phases.{Entries}
 use Rattle.actor_core.specs.Entries.{own}
@@ -28,6 +29,20 @@ backwards past (e ∷ es) = backwards (e ∷ past) es
 -- this body was put under the name
 abbrev pub InPut : List Put → List ℕ → List ℕ → Type 0
 InPut ps n b = body_of (put_under ps n) ≡ Some b
+
+-- it was put no later than this clock, or at this clock
+abbrev pub PutBefore : List Put → ℕ → List ℕ → List ℕ → Type 0
+PutBefore ps time n b = (p : Put) × (put_under ps n ≡ Some p) × (p.body ≡ b) × (p.at ≤ time)
+
+abbrev pub PutAt : List Put → List ℕ → ℕ → Type 0
+PutAt ps n at = (p : Put) × (put_under ps n ≡ Some p) × (p.at ≡ at)
+
+-- an object is what was put under its name
+pub record PutAs (ps : List Put) (n : List ℕ) (o : Object) : Type 0 where
+  pub put : Put
+  pub is : put_under ps n ≡ Some put
+  pub body : put.body ≡ o.body
+  pub at : put.at ≡ o.put_at
 
 -- its session knows it, or it was put
 abbrev pub Sure : (Tag → List ℕ → List ℕ → Type 0) → Tag → List Put → List ℕ → List ℕ → Type 0
@@ -105,6 +120,16 @@ one_more e past v is = ap (λ (c : Bool). versions_put (if c then e ∷ own e.ta
 pub put_of_body : (o : Option Put) (b : List ℕ) → body_of o ≡ Some b → (q : Put) × (o ≡ Some q)
 put_of_body None b h = cc
 put_of_body (Some q) b h = (q, refl)
+
+pub put_with : (ps : List Put) (n b : List ℕ) → InPut ps n b → (q : Put) × (put_under ps n ≡ Some q) × (q.body ≡ b)
+put_with ps n b h = by (put_under ps n) refl h
+  where
+    same : (q : Put) → Some q.body ≡ Some b → q.body ≡ b
+    same q k = cc
+
+    by : (o : Option Put) → put_under ps n ≡ o → body_of o ≡ Some b → (q : Put) × (put_under ps n ≡ Some q) × (q.body ≡ b)
+    by None is k = cc
+    by (Some q) is k = (q, is, same q k)
 
 -- a put that is in its place among more
 pub more_after : (ps : List Put) (p : Put) (earlier later rest : List Put) → ps ≡ earlier ++ p ∷ later → ps ++ rest ≡ earlier ++ p ∷ (later ++ rest)
@@ -190,6 +215,13 @@ one_under p q n h = let two = one_if p q (bytes_eq p.name n) h in ((bytes_eq-Dec
 
 pub one_itself : (p : Put) → put_under (p ∷ []) p.name ≡ Some p
 one_itself p = ap (λ (b : Bool). if b then Some p else None) ((bytes_eq-Decides p.name p.name).1 refl)
+
+pub one_other : (p : Put) (n : List ℕ) → (p.name ≡ n → ⊥) → put_under (p ∷ []) n ≡ None
+one_other p n apart = by (bytes_eq p.name n) refl
+  where
+    by : (b : Bool) → bytes_eq p.name n ≡ b → (if b then Some p else None) ≡ None
+    by true is = absurd (apart ((bytes_eq-Decides p.name n).0 is))
+    by false is = refl
 
 pub suc_same : (v w : ℕ) → suc v ≡ suc w → v ≡ w
 suc_same v w h = omega arith

@@ -13,7 +13,7 @@ use Rattle.table_changes.specs.Conflicts.{first_removed}
 use Rattle.table_changes.specs.Operations.{Operation, IsSound}
 use Rattle.table_changes.specs.Statements.{insert_of, making_of}
 use Rattle.table_changes.proofs.Statements.{insert_sound, making_sound}
-use Rattle.table_laws.specs.Commits.{meta_of, schema_in}
+use Rattle.table_laws.specs.Commits.{meta_of, schema_of, schema_in}
 use Rattle.table_laws.specs.Operations.{Scope, NoRow, passes, may, operation_of, EachOperationIsSound}
 
 same_op : (a b : Operation Scope) → Some a ≡ Some b → a ≡ b
@@ -36,7 +36,7 @@ says_truly a rows NoRow out x has = cc
 
 -- a table that was loaded has a schema, over which a statement that makes a table has no operation, and an insert has its own
 abbrev operation_in : Option (List (List ℕ)) → Statement → Option (Operation Scope)
-operation_in columns statement = operation_of (option_map (λ m. m.schema) (option_map meta_of columns)) statement
+operation_in columns statement = operation_of (schema_of (option_map meta_of columns)) statement
 
 pub makes_none : (s : Snapshot) (columns : List (List ℕ)) → s.columns ≡ Some columns → (spec : TableSpec) (op : Operation Scope) → operation_of (schema_in s) (Table spec) ≡ Some op → ⊥
 makes_none s columns there spec op is = let bad : None ≡ Some op = sym (ap (λ (o : Option (List (List ℕ))). operation_in o (Table spec)) there) ∙ is in no_some op bad

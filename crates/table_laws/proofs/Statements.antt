@@ -41,12 +41,12 @@ use Rattle.table_changes.specs.Operations.{Operation}
 use Rattle.table_changes.specs.Statements.{insert_of}
 use Rattle.table_laws.specs.Commits.{files_in, meta_in, schema_in}
 use Rattle.table_laws.specs.Operations.{Scope, NoRow, operation_of}
-use Rattle.table_laws.proofs.CommitEffects.{effect_of, Says, judge_of}
+use Rattle.table_laws.proofs.CommitEffects.{new_file, effect_of, Says, judge_of}
 use Rattle.table_laws.proofs.Sound.{inserts_rows}
 use Rattle.table_laws.proofs.Effects.{loaded_columns}
 use Rattle.table_laws.specs.Runs.{reply_in, or_first, listed_by, told_by, versions_put}
 use Rattle.table_laws.proofs.Sessions.{GotIn, StoredIn, LoadedTo, KnownKept}
-use Rattle.table_laws.proofs.Lawful.{Known, NoPut, AllLost, first_past, AllGot, AllScanned, Cleared, Knows, versions_down, AllWon, IsFile, IsTable, IsCommit, AllLawful}
+use Rattle.table_laws.proofs.Lawful.{Known, NoPut, AllLost, first_past, AllGot, AllScanned, Cleared, Knows, versions_down, AllWon, IsOwn, IsFile, IsTable, IsCommit, AllLawful}
 use Rattle.table_laws.proofs.Known.{loaded_more, knows_more, scanned_more, scanned_push}
 use Rattle.table_laws.proofs.Phases.{same_put, now_no_put, list_no_put, none_put, no_commit_put, lost_other, lost_to, given_more, known_more, Fresh, fresh_get, none_lost, replied, ended_lost, at_now, at_list, at_gets, at_put_new, at_attempt}
 use Rattle.table_laws.proofs.Loads.{Loading, loading_more, loading_on, all_loaded, base_known}
@@ -65,30 +65,30 @@ one_won e f past read v body got answer won k from to = by (nat_lt k v) refl
     by false more = let same : v ≡ k = grind (arith, nat_tests) in (body, inl (got ∙ ap (λ (n : ℕ). Get (commit_text (suc n))) same, answer))
 
 -- what a statement knows before an attempt, after so many lost ones
-pub record Attempts (K : List ℕ → List ℕ → Type 0) (tag : Tag) (op : Operation Scope) (start read : ℕ) (s : Snapshot) (view : File → List Row) (lost : ℕ) (past : Entries) : Type 0 where
+pub record Attempts (K : List ℕ → List ℕ → Type 0) (tag : Tag) (op : Operation Scope) (start read : ℕ) (s : Snapshot) (view : File → List Row) (added : List File) (lost : ℕ) (past : Entries) : Type 0 where
   pub before : ℕ
   pub next : suc read + lost ≡ suc before
   pub started : first_past told_by past ≡ Some start
   pub listed : first_past listed_by past ≡ Some read
-  pub knows : Knows tag op start read s view (Known K past) (StoredIn past) before
+  pub knows : Knows tag op start read s view added (Known K past) (StoredIn past) before
   pub all_lost : AllLost past
   pub puts : versions_put past ≡ versions_down read lost
   pub won : AllWon past read before
 
-module _ (K : List ℕ → List ℕ → Type 0) (tag : Tag) (op : Operation Scope) (start read : ℕ) (s : Snapshot) (view : File → List Row) where
-  grown : (v : ℕ) (past : Entries) (e : JournalEntry) → Knows tag op start read s view (Known K past) (StoredIn past) v → Knows tag op start read s view (Known K (e ∷ past)) (StoredIn (e ∷ past)) v
-  grown v past e k = knows_more tag op start read s view (Known K past) (StoredIn past) (Known K (e ∷ past)) (StoredIn (e ∷ past)) v (known_more K past e) (λ n b h. inr h) k
+module _ (K : List ℕ → List ℕ → Type 0) (tag : Tag) (op : Operation Scope) (start read : ℕ) (s : Snapshot) (view : File → List Row) (added : List File) where
+  grown : (v : ℕ) (past : Entries) (e : JournalEntry) → Knows tag op start read s view added (Known K past) (StoredIn past) v → Knows tag op start read s view added (Known K (e ∷ past)) (StoredIn (e ∷ past)) v
+  grown v past e k = knows_more tag op start read s view added (Known K past) (StoredIn past) (Known K (e ∷ past)) (StoredIn (e ∷ past)) v (known_more K past e) (λ n b h. inr h) k
 
   -- a winner without a clash: the next version may be tried
   won_over : (v : ℕ) (G S : List ℕ → List ℕ → Type 0) (body : List ℕ) → G (commit_text (suc v)) body → ((t : Commit) → read_commit (suc v) body ≡ Some t → judge_of (meta_in s) op view (files_in s) t ≡ None)
-      → Knows tag op start read s view G S v → Knows tag op start read s view G S (suc v)
+      → Knows tag op start read s view added G S v → Knows tag op start read s view added G S (suc v)
   won_over v G S body got clear k = record {
     below = let b = k.below in omega arith;
     loaded = k.loaded;
     files = k.files;
     new = k.new;
     written = k.written;
-    stored = k.stored;
+    parts = k.parts;
     previous = (body, got);
     clear = λ n from to. by n from to (nat_lt n v) refl;
   }
@@ -98,13 +98,13 @@ module _ (K : List ℕ → List ℕ → Type 0) (tag : Tag) (op : Operation Scop
       by n from to false e = let same : v ≡ n = grind (arith, nat_tests) in subst (λ (m : ℕ). Cleared G (judge_of (meta_in s) op view (files_in s)) m) same (body, got, clear)
 
   module _ (statement : Statement) (is_op : operation_of (schema_in s) statement ≡ Some op) (plan : CommitPlan)
-      (says : (v : ℕ) → Says (suc v) plan.text (effect_of tag start op view (files_in s)))
+      (says : (v : ℕ) → Says (suc v) plan.text (effect_of op view (files_in s) added)) (own : IsOwn tag start added)
       (clears : (k : ℕ) (body winner : List ℕ) → verdict_of plan body ≡ verdict.Clear winner → (t : Commit) → read_commit (suc k) body ≡ Some t → judge_of (meta_in s) op view (files_in s) t ≡ None) where
     abbrev P : ℕ → Entries → Type 0
-    P lost past = Attempts K tag op start read s view lost past
+    P lost past = Attempts K tag op start read s view added lost past
 
-    said : (v version : ℕ) → suc v ≡ version → Says version plan.text (effect_of tag start op view (files_in s))
-    said v version is = subst (λ (n : ℕ). Says n plan.text (effect_of tag start op view (files_in s))) is (says v)
+    said : (v version : ℕ) → suc v ≡ version → Says version plan.text (effect_of op view (files_in s) added)
+    said v version is = subst (λ (n : ℕ). Says n plan.text (effect_of op view (files_in s) added)) is (says v)
 
     pub attempts : (limit : ℕ) (out : Option Finish) (kept : Option Kept) (past es : Entries) → suc read + (0 + limit) < 2 ^ 64 → P 0 past → AtCommit tag limit out kept start (suc read) plan (committed read) es
         → AllLawful K tag statement (reply_in out) past es
@@ -131,6 +131,7 @@ module _ (K : List ℕ → List ℕ → Type 0) (tag : Tag) (op : Operation Scop
           read = read;
           s = s;
           view = view;
+          added = added;
           says = says p.before;
           started = p.started;
           listed = p.listed;
@@ -162,6 +163,8 @@ module _ (K : List ℕ → List ℕ → Type 0) (tag : Tag) (op : Operation Scop
           start = start;
           s = s;
           view = view;
+          added = added;
+          own = own;
           body = plan.text;
           says = said p.before l.version (let n = p.next in omega arith);
           there = inl (inl (put ∙ ap (λ (v : ℕ). PutNew (commit_text v) plan.text) (sym version), answer));
@@ -175,6 +178,8 @@ module _ (K : List ℕ → List ℕ → Type 0) (tag : Tag) (op : Operation Scop
           start = start;
           s = s;
           view = view;
+          added = added;
+          own = own;
           body = plan.text;
           says = said p.before l.version (let n = p.next in omega arith);
           there = inr (inl (got ∙ ap (λ (v : ℕ). Get (commit_text v)) (sym version), answer));
@@ -186,11 +191,11 @@ module _ (K : List ℕ → List ℕ → Type 0) (tag : Tag) (limit : ℕ) (limit
   appends : (rows : List Row) → rows_of_text (text_of_rows rows) ≡ Some rows → (out : Option Finish) (kept : Option Kept) (start read : ℕ) (s : Snapshot) (past es : Entries) → read < version_limit → LoadedTo (Known K past) (suc read) s → Fresh start read past
       → Appends tag limit out rows kept start read es → AllLawful K tag (Insert rows) (reply_in out) past es
   appends rows faithful out kept start read s past es small loaded fresh h =
-      at_put_new K tag (Insert rows) out kept (data_text tag start 0) (text_of_rows rows) _ _ _ past es (none_lost past fresh.none) (IsFile start refl fresh.none) h
+      at_put_new K tag (Insert rows) out kept (data_text tag start 0) (text_of_rows rows) _ _ _ past es (none_lost past fresh.none) (IsFile start 0 fresh.started (omega arith) refl (fresh.none (data_text tag start 0))) h
       (λ e rest put is on. ended_lost K tag (Insert rows) out kept _ (e ∷ past) rest (still e put) on)
       (λ e rest put is on.
-      attempts K tag (insert_of NoRow rows) start read s (λ a. []) (Insert rows) (inserts_rows s columns.0 columns.1 rows) (record { text = text_of_add (data_text tag start 0); makes_table = false })
-      (append_says tag start rows (λ a. []) (files_in s)) (λ k body winner clear t reads. append_clears (meta_in s) rows (λ a. []) (files_in s) k body t reads)
+      attempts K tag (insert_of NoRow rows) start read s (λ a. []) (new_file tag start 0 ∷ []) (Insert rows) (inserts_rows s columns.0 columns.1 rows) (record { text = text_of_add (data_text tag start 0); makes_table = false })
+      (append_says tag start rows (λ a. []) (files_in s)) (record { part = 0; small = omega arith; more = []; is = refl }) (λ k body winner clear t reads. append_clears (meta_in s) rows (λ a. []) (files_in s) k body t reads)
       limit out kept (e ∷ past) rest (omega arith)
       (record {
         before = read;
@@ -203,12 +208,12 @@ module _ (K : List ℕ → List ℕ → Type 0) (tag : Tag) (limit : ℕ) (limit
           files = none_got (Known K (e ∷ past)) (files_in s);
           new = rows;
           written = refl;
-          stored = (text_of_rows rows, inl (put, is), faithful);
+          parts = (rows, [], sym (append-nil rows), record { small = omega arith; is = refl; body = text_of_rows rows; known = inl (put, is); reads = faithful }, refl);
           previous = (loaded.1, known_more K past e (commit_text read) loaded.1 loaded.4);
           clear = λ k from to. absurd (let a : read ≤ k = from in let b : k < read = to in omega arith);
         };
         all_lost = still e put;
-        puts = other_put e past (PutNew (data_text tag start 0) (text_of_rows rows)) put (data_put tag start (text_of_rows rows)) ∙ no_versions past fresh.none;
+        puts = other_put e past (PutNew (data_text tag start 0) (text_of_rows rows)) put (data_put tag start 0 (text_of_rows rows)) ∙ no_versions past fresh.none;
         won = λ k from to. absurd (let a : read ≤ k = from in let b : k < read = to in omega arith);
       }) on)
       (λ e rest put is on. ended_lost K tag (Insert rows) out kept _ (e ∷ past) rest (still e put) on)
@@ -330,13 +335,13 @@ module _ (K : List ℕ → List ℕ → Type 0) (tag : Tag) (limit : ℕ) (limit
       by false e on = ended_lost K tag (whole statement) out kept (refusal.Unsupported Versions) past es (none_lost past none) on
 
   -- the making of a table
-  makes : (spec : TableSpec) (start : ℕ) (out : Option Finish) (kept : Option Kept) (o : Option ℕ) (past es : Entries) → NoPut past → Makes tag limit out spec.columns start kept o es → AllLawful K tag (Table spec) (reply_in out) past es
-  makes spec start out kept (Some v) past es none h = ended_lost K tag (Table spec) out kept refusal.TableThere past es (none_lost past none) h
-  makes spec start out kept None past es none h =
-      at_attempt K tag (Table spec) out kept (record { text = text_of_columns (names_of spec.columns); makes_table = true }) (record { start = start; retention = retention; first = 0 }) (λ l. Created) (λ lost past. (lost ≡ 0) × NoPut past)
+  makes : (spec : TableSpec) (start : ℕ) (out : Option Finish) (kept : Option Kept) (o : Option ℕ) (past es : Entries) → NoPut past → first_past told_by past ≡ Some start → Makes tag limit out spec.columns start kept o es → AllLawful K tag (Table spec) (reply_in out) past es
+  makes spec start out kept (Some v) past es none started h = ended_lost K tag (Table spec) out kept refusal.TableThere past es (none_lost past none) h
+  makes spec start out kept None past es none started h =
+      at_attempt K tag (Table spec) out kept (record { text = text_of_columns (names_of spec.columns); makes_table = true }) (record { start = start; retention = retention; first = 0 }) (λ l. Created) (λ lost past. (lost ≡ 0) × NoPut past × (first_past told_by past ≡ Some start))
       (λ lost past p. none_lost past p.1)
-      (λ lost past e is p. (p.0, none_put e past Now is now_no_put p.1))
-      (λ lost past small p. IsTable spec refl (ap commit_text (first lost p.0)) refl p.1)
+      (λ lost past e is p. (p.0, none_put e past Now is now_no_put p.1, given_more told_by past e start p.2))
+      (λ lost past small p. IsTable spec (start, p.2) refl (ap commit_text (first lost p.0)) refl p.1)
       (λ lost past e f body winner put got answer why clear small p. cc)
       (λ lost past e l put answer version attempts small p.
       let here = put_first e lost p.0 put in
@@ -345,7 +350,7 @@ module _ (K : List ℕ → List ℕ → Type 0) (tag : Tag) (limit : ℕ) (limit
       let here = put_first e lost p.0 put in
       let there : f.call ≡ Get (commit_text 0) = got ∙ ap (λ (n : ℕ). Get (commit_text n)) (first lost p.0) in
       record { spec = spec; is_table = refl; puts = other_put f (e ∷ past) (Get (commit_text 0)) there refl ∙ put_once e past p.1 here; there = inr (inl (there, answer), inr (inl (here, fault))) })
-      limit 0 [] past es (omega arith) (refl, none) h
+      limit 0 [] past es (omega arith) (refl, none, started) h
     where
       first : (lost : ℕ) → lost ≡ 0 → 0 + lost ≡ 0
       first lost is = omega arith
@@ -359,7 +364,7 @@ module _ (K : List ℕ → List ℕ → Type 0) (tag : Tag) (limit : ℕ) (limit
   after_list : (kept : Option Kept) → KnownKept K kept → (statement : Statement) → ((rows : List Row) → statement ≡ Insert rows → rows_of_text (text_of_rows rows) ≡ Some rows)
       → (out : Option Finish) (start : ℕ) (l : List Listed) (past es : Entries) → NoPut past → first_past told_by past ≡ Some start → ((v : ℕ) → newest l ≡ Some v → first_past listed_by past ≡ Some v)
       → AfterList tag limit out statement kept start l es → AllLawful K tag statement (reply_in out) past es
-  after_list kept held (Table spec) faithful out start l past es none started seen h = makes spec start out kept (newest l) past es none h
+  after_list kept held (Table spec) faithful out start l past es none started seen h = makes spec start out kept (newest l) past es none started h
   after_list kept held (Insert rows) faithful out start l past es none started seen h = loads kept held (over.Insert rows) faithful out start l (newest l) past es none started seen h
   after_list kept held Select faithful out start l past es none started seen h = loads kept held over.Select faithful out start l (newest l) past es none started seen h
 
@@ -369,10 +374,11 @@ module _ (K : List ℕ → List ℕ → Type 0) (tag : Tag) (limit : ℕ) (limit
   answered_lawful kept held statement faithful es out h =
       at_now K tag statement out kept _ _ [] es (none_lost [] (λ n b a k. absurd k)) h (λ start e rest now time on.
       let quiet = none_put e [] Now now now_no_put (λ n b a k. absurd k) in
-      at_list K tag statement out kept _ log_prefix _ (e ∷ []) rest (none_lost (e ∷ []) quiet) on (λ l f rest' call names on'.
+      let started : first_past told_by (e ∷ []) ≡ Some start = ap (λ (x : Call). told_by x e.answer) now ∙ ap (λ (a : Answer). told_by Now a) time in
+      at_list K tag statement out kept _ log_prefix _ (e ∷ []) rest (start, started) (none_lost (e ∷ []) quiet) on (λ l f rest' call names on'.
       after_list kept held statement faithful out start l (f ∷ e ∷ []) rest'
       (none_put f (e ∷ []) (ListNames log_prefix) call (list_no_put log_prefix) quiet)
-      (given_more told_by (e ∷ []) f start (ap (λ (x : Call). told_by x e.answer) now ∙ ap (λ (a : Answer). told_by Now a) time))
+      (given_more told_by (e ∷ []) f start started)
       (λ v is.
       ap (λ (x : Call). or_first (listed_by x e.answer) (listed_by f.call f.answer)) now
       ∙ ap (λ (x : Call). listed_by x f.answer) call ∙ ap (λ (a : Answer). listed_by (ListNames log_prefix) a) names

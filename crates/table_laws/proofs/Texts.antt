@@ -9,11 +9,11 @@ use Rattle.line_texts.proofs.Laws.{path_reads_back}
 use Rattle.snapshot_replay.specs.Table.{Commit, table_commit, append_commit}
 use Rattle.statement_calls.specs.Texts.{read_commit}
 use Rattle.table_changes.specs.Rows.{Row}
-use Rattle.table_changes.specs.Table.{File, FileLine, Meta, paths_of, lines_of}
-use Rattle.table_changes.specs.Conflicts.{DeleteDelete, has_meta, clash_or, first_removed, first_clash}
+use Rattle.table_changes.specs.Table.{File, FileLine, MetaData, paths_of, lines_of}
+use Rattle.table_changes.specs.Conflicts.{DeleteDelete, clash_or, first_removed, first_clash}
 use Rattle.table_changes.specs.Operations.{reads_of}
 use Rattle.table_changes.specs.Statements.{insert_of}
-use Rattle.table_laws.specs.Commits.{line_of, meta_of}
+use Rattle.table_laws.specs.Commits.{line_of, info_of, protocol_of, meta_of}
 use Rattle.table_laws.specs.Operations.{NoRow, passes, may}
 use Rattle.table_laws.proofs.CommitEffects.{new_file, effect_of, Says, level_in, judge_of}
 use Rattle.table_laws.proofs.Paths.{data_is_path}
@@ -27,11 +27,11 @@ read_later : (v : ℕ) (text : List ℕ) → read_commit (suc v) text ≡ option
 read_later v text = ap (λ (b : Bool). if b then option_map table_commit (columns_of_text text) else option_map append_commit (path_of_text text)) (later v)
 
 -- the text of an append is read as the path of its file
-pub append_says : (tag : Tag) (start : ℕ) (rows : List Row) (view : File → List Row) (fs : List File) (v : ℕ) → Says (suc v) (text_of_add (data_text tag start 0)) (effect_of tag start (insert_of NoRow rows) view fs)
+pub append_says : (tag : Tag) (start : ℕ) (rows : List Row) (view : File → List Row) (fs : List File) (v : ℕ) → Says (suc v) (text_of_add (data_text tag start 0)) (effect_of (insert_of NoRow rows) view fs (new_file tag start 0 ∷ []))
 append_says tag start rows view fs v = (
   append_commit (data_text tag start 0),
   read_later v (text_of_add (data_text tag start 0)) ∙ ap (option_map append_commit) (path_reads_back (data_text tag start 0) (data_is_path tag start)),
-  ap (λ (gone : List File). record { blind = true; protocol = false; meta = None; txns = []; lines = lines_of 0 true gone (new_file tag start ∷ []) }) (sym (none_picked fs)),
+  ap (λ (gone : List File). record { info = Some (info_of true); protocol = None; meta = None; txns = []; lines = lines_of 0 true gone (new_file tag start 0 ∷ []) }) (sym (none_picked fs)),
 )
 
 -- it has no columns
@@ -46,11 +46,11 @@ no_columns v text t reads = by (path_of_text text) (sym (read_later v text) ∙ 
     by (Some path) h = sym (ap (λ (x : Commit). x.columns) (same (append_commit path) t h))
 
 -- so an insert doesn't clash with it, at any level
-pub append_clears : (meta : Option Meta) (rows : List Row) (view : File → List Row) (fs : List File) (v : ℕ) (text : List ℕ) (t : Commit) → read_commit (suc v) text ≡ Some t → judge_of meta (insert_of NoRow rows) view fs t ≡ None
+pub append_clears : (meta : Option MetaData) (rows : List Row) (view : File → List Row) (fs : List File) (v : ℕ) (text : List ℕ) (t : Commit) → read_commit (suc v) text ≡ Some t → judge_of meta (insert_of NoRow rows) view fs t ≡ None
 append_clears meta rows view fs v text t reads =
     let op = insert_of NoRow rows in
     let lines : List FileLine = map (line_of t.changes) t.lines in
-    ap (λ (o : Option (List (List ℕ))). first_clash (reads_of passes may (level_in op meta) None view op fs) (record { blind = t.blind; protocol = has_meta (option_map meta_of o); meta = option_map meta_of o; txns = []; lines = lines }))
+    ap (λ (o : Option (List (List ℕ))). first_clash (reads_of passes may (level_in op meta) None view op fs) (record { info = Some (info_of t.blind); protocol = option_map protocol_of o; meta = option_map meta_of o; txns = []; lines = lines }))
     (no_columns v text t reads)
     ∙ ap (λ (gone : List File). clash_or (option_map DeleteDelete (first_removed (paths_of gone) lines)) None) (none_picked fs)
     ∙ ap (λ (o : Option (List ℕ)). clash_or (option_map DeleteDelete o) None) (none_removed lines)

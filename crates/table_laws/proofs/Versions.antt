@@ -18,8 +18,8 @@ use Rattle.table_laws.proofs.Lawful.{NoPut}
 pub commit_put : (v : ℕ) (body : List ℕ) → v < 2 ^ 64 → version_put (PutNew (commit_text v) body) ≡ Some v
 commit_put v body small = ap commit_of (commit_is_read v small)
 
-pub data_put : (tag : Tag) (start : ℕ) (body : List ℕ) → version_put (PutNew (data_text tag start 0) body) ≡ None
-data_put tag start body = ap commit_of (data_is_outside tag start 0).0
+pub data_put : (tag : Tag) (start part : ℕ) (body : List ℕ) → version_put (PutNew (data_text tag start part) body) ≡ None
+data_put tag start part body = ap commit_of (data_is_outside tag start part).0
 
 -- an entry that puts no commit
 pub other_put : (e : JournalEntry) (past : Entries) (call : Call) → e.call ≡ call → version_put call ≡ None → versions_put (e ∷ past) ≡ versions_put past

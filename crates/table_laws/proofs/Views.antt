@@ -4,7 +4,6 @@ use Rattle.std.proofs.lemmas.List.{append_assoc}
 use Rattle.std.specs.Prelude.{Option, Some, None, if◌then◌else◌, nat_lt}
 use Rattle.std.specs.Str.{bytes_eq}
 use Rattle.std.proofs.lemmas.Bool.Decides.{nat_tests}
-use Rattle.std.proofs.lemmas.Slice.Eq.{bytes_eq-Decides}
 use Rattle.edge_api.specs.declared.call.Tag.{Tag}
 use Rattle.edge_api.specs.declared.call.Call.{Call}
 use Rattle.edge_api.specs.declared.call.Call.TheVariants.{Get, PutNew, Put as Replace, List as ListNames, Delete, Now, Wait}
@@ -26,11 +25,10 @@ use Rattle.table_laws.proofs.Sessions.{SessionKnows}
 use Rattle.table_laws.proofs.Puts.{or_else}
 use Rattle.table_laws.proofs.Shown.{one_under}
 use Rattle.table_laws.proofs.Tries.{put_under-front}
-use Rattle.table_laws.proofs.Standing.{Keeps, nothing_stands}
 use Rattle.table_laws.proofs.Readings.{some_put}
-use Rattle.table_laws.proofs.Listings.{listing_is_newest, newest_there, listed_object}
-use Rattle.table_laws.proofs.Moments.{StandsAt, stands_at}
-use Rattle.table_laws.proofs.Ends.{keeps_answered}
+use Rattle.table_laws.proofs.Listings.{given_by, listing_is_newest, newest_there, listed_object}
+use Rattle.table_laws.proofs.Journals.{StandsAt}
+use Rattle.table_laws.proofs.Ends.{stands_after}
 
 same_number : (a b : ℕ) → a ≡ b → (a == b) ≡ true
 same_number a b is = grind (arith, nat_tests)
@@ -53,28 +51,6 @@ record ListedAt (moments : List Moment) (t : Tag) (v : ℕ) : Type 0 where
   listed : List Listed
   answer : m.entry.answer ≡ Names listed
   is : newest listed ≡ Some v
-
--- what gives a version read is a listing of the log
-given_by : (call : Call) (answer : Answer) (v : ℕ) → listed_by call answer ≡ Some v → (call ≡ ListNames log_prefix) × (listed : List Listed) × (answer ≡ Names listed) × (newest listed ≡ Some v)
-given_by (ListNames prefix) (Names l) v h = by (bytes_eq prefix log_prefix) refl h
-  where
-    by : (c : Bool) → bytes_eq prefix log_prefix ≡ c → (if c then newest l else None) ≡ Some v → (ListNames prefix ≡ ListNames log_prefix) × (listed : List Listed) × (Names l ≡ Names listed) × (newest listed ≡ Some v)
-    by true e k = (ap (λ (n : List ℕ). ListNames n) ((bytes_eq-Decides prefix log_prefix).0 e), l, refl, k)
-    by false e k = cc
-given_by (ListNames prefix) Fault v h = cc
-given_by (ListNames prefix) (Body b) v h = cc
-given_by (ListNames prefix) Missing v h = cc
-given_by (ListNames prefix) Stored v h = cc
-given_by (ListNames prefix) Taken v h = cc
-given_by (ListNames prefix) Gone v h = cc
-given_by (ListNames prefix) (Time t) v h = cc
-given_by (ListNames prefix) Waited v h = cc
-given_by (Get n) answer v h = cc
-given_by (PutNew n b) answer v h = cc
-given_by (Replace n b) answer v h = cc
-given_by (Delete n) answer v h = cc
-given_by Now answer v h = cc
-given_by (Wait t) answer v h = cc
 
 first_of : (a b : Option ℕ) (v : ℕ) → or_first a b ≡ Some v → (a ≡ Some v) ⊎ (b ≡ Some v)
 first_of None b v h = inr h
@@ -223,12 +199,10 @@ module _ (limit : ℕ) (script : Tag → Option Statement) (outcomes : Tag → O
   K = SessionKnows (entries_of moments)
 
   abbrev At : List Moment → List Moment → Type 0
-  At before rest = StandsAt K script (replies_of outcomes) run.tags [] [] before rest
+  At before rest = StandsAt K script (replies_of outcomes) run.tags [] [] [] 0 before rest
 
   at_moment : (before after : List Moment) (m : Moment) → moments ≡ before ++ m ∷ after → At before (m ∷ after)
-  at_moment before after m parts =
-      stands_at K script (replies_of outcomes) run.tags before (m ∷ after) [] [] [] 0 (nothing_stands K script (replies_of outcomes) run.tags) (subst (IsLegal [] 0) parts legal)
-      (subst (λ (ms : List Moment). Keeps K script (replies_of outcomes) run.tags [] (entries_of ms)) parts (keeps_answered limit script outcomes moments legal run))
+  at_moment before after m parts = stands_after limit script outcomes moments legal run before (m ∷ after) parts
 
   -- a listing of the log, by the objects of its moment
   listing_is : (before after : List Moment) (m : Moment) (listed : List Listed) (r : At before (m ∷ after)) → m.entry.call ≡ ListNames log_prefix → m.entry.answer ≡ Names listed → listed ≡ listing r.os log_prefix
@@ -241,7 +215,7 @@ module _ (limit : ℕ) (script : Tag → Option Statement) (outcomes : Tag → O
   pub listing_at : ListingIsNewest moments
   listing_at before after m listed parts call answer =
       let r = at_moment before after m parts in
-      subst (λ (l : List Listed). IsNewest (history [] before) (newest l)) (sym (listing_is before after m listed r call answer)) (listing_is_newest K script (replies_of outcomes) run.tags r.past r.os (history [] before) r.stands)
+      subst (λ (l : List Listed). IsNewest (history [] before) (newest l)) (sym (listing_is before after m listed r call answer)) (listing_is_newest K script (replies_of outcomes) run.tags r.past r.os (history [] before) r.clock r.stands)
 
   -- the version that a statement read was the newest at some moment of its own
   record Saw (t : Tag) (v : ℕ) : Type 0 where

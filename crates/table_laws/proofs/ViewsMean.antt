@@ -1,7 +1,7 @@
 -- Short journals, of which the words of Views hold and are refuted.
 -- Names of commits aren't computed: they are told apart by commits_differ.
 -- views_mean is the law.
-use Rattle.std.proofs.Common.{◌≡◌, ℕ, zero, suc, ◌<◌, ◌^◌, Bool, true, false, List, [], ◌∷◌, ◌++◌, refl, sym, ◌∙◌, ap, subst, arith}
+use Rattle.std.proofs.Common.{◌≡◌, ℕ, zero, suc, ◌≤◌, ◌<◌, ◌^◌, Bool, true, false, List, [], ◌∷◌, ◌++◌, refl, sym, ◌∙◌, ap, subst, arith}
 use Rattle.std.specs.Prelude.{Option, Some, None, if◌then◌else◌, option_map}
 use Rattle.std.specs.Str.{bytes_eq}
 use Rattle.std.proofs.lemmas.Slice.Eq.{bytes_eq-Decides}
@@ -10,19 +10,22 @@ use Rattle.edge_api.specs.declared.call.Call.TheVariants.{PutNew, List as ListNa
 use Rattle.edge_api.specs.declared.call.Answer.TheVariants.{Names}
 use Rattle.edge_api.specs.declared.call.Listed.{Listed}
 use Rattle.edge_api.specs.declared.call.Object.{Object}
-use Rattle.edge_api.specs.Journal.{Objects, Moment, same_tag, entries_of, object_at}
+use Rattle.edge_api.specs.Journal.{Entries, Objects, Moment, same_tag, entries_of, object_at}
 use Rattle.table_rules.specs.Names.{log_prefix, commit_text}
+use Rattle.table_rules.specs.Properties.{entry_of}
 use Rattle.table_rules.proofs.Names.{commit_is_read, commits_differ}
 use Rattle.line_texts.proofs.Laws.{columns_read_back}
 use Rattle.snapshot_replay.specs.Table.{table_commit}
 use Rattle.statement_calls.specs.Listing.{commit_of, later, newest}
 use Rattle.actor_core.specs.Entries.{own}
 use Rattle.actor_core.proofs.Owners.{same_tag_is}
-use Rattle.table_changes.specs.Table.{Commit, level_of}
+use Rattle.table_changes.specs.Table.{Commit, WriteSerializable, level_of}
+use Rattle.table_laws.specs.Commits.{meta_of}
 use Rattle.table_laws.specs.History.{Put, put_under, put_if_free, body_of, history}
-use Rattle.table_laws.specs.Runs.{or_first, listed_by, version_read}
+use Rattle.table_laws.specs.Runs.{or_first, listed_by, version_read, started_at}
 use Rattle.table_laws.specs.Views.{IsNewest, IsLater, PutOnce}
-use Rattle.table_laws.specs.ViewsMean.{maker, first, second, puts, lists, lists_none, table_put, ViewsMean}
+use Rattle.table_laws.specs.Starts.{AtEachMoment, PutsFollowStarts, NewerLandLater}
+use Rattle.table_laws.specs.ViewsMean.{maker, first, second, puts, lists, lists_none, starts, lands, table_put, ViewsMean}
 use Rattle.table_laws.proofs.Shown.{one_under, one_itself, some_same}
 use Rattle.table_laws.proofs.Readings.{is_some}
 use Rattle.table_laws.proofs.Effects.{commit_is}
@@ -145,6 +148,71 @@ twice_refuted h =
     let both : PutOnce (put_of first 0 ∷ put_of second 0 ∷ []) = subst (λ (b : Bool). PutOnce (put_of first 0 ∷ (put_if_free (object_at (left_after b) (commit_text 0)) (put_of second 0) ++ []))) (self_name (commit_text 0)) h in
     no_some (put_of second 0) (sym both.0 ∙ one_itself (put_of second 0))
 
+abbrev landed : Tag → ℕ → ℕ → Put
+landed tag v clock = record { tag = tag; name = commit_text v; body = []; at = clock }
+
+no_more : (x : Moment) (before after : List Moment) → [] ≡ x ∷ (before ++ after) → ⊥
+no_more x before after h = cc
+
+-- what is put after its statement's start
+follows_holds : AtEachMoment PutsFollowStarts (starts first 1 ∷ lands first 0 1 ∷ [])
+follows_holds [] after parts = λ name p h. absurd (no_some p h)
+follows_holds (x ∷ []) after parts =
+    subst (λ (y : Moment). PutsFollowStarts (y ∷ [])) (same_head (starts first 1) x (lands first 0 1 ∷ []) after parts).0 (λ name p h. absurd (no_some p h))
+follows_holds (x ∷ y ∷ []) after parts =
+    let one = same_head (starts first 1) x (lands first 0 1 ∷ []) (y ∷ after) parts in
+    let two = same_head (lands first 0 1) y [] after one.1 in
+    subst (λ (z : Moment). PutsFollowStarts (z ∷ y ∷ [])) one.0 (subst (λ (z : Moment). PutsFollowStarts (starts first 1 ∷ z ∷ [])) two.0 (λ name p h.
+    subst (λ (q : Put). (start : ℕ) × (started_at (own q.tag (entries_of (starts first 1 ∷ lands first 0 1 ∷ []))) ≡ Some start) × (start ≤ q.at)) (one_under (landed first 0 1) p name h).1 (1, refl, omega arith)))
+follows_holds (x ∷ y ∷ z ∷ before) after parts =
+    absurd (no_more z before after (same_head (lands first 0 1) y [] (z ∷ (before ++ after)) (same_head (starts first 1) x (lands first 0 1 ∷ []) (y ∷ z ∷ (before ++ after)) parts).1).1)
+
+-- a version that lands at the start of a statement that doesn't read it
+abbrev last_of : Bool → Entries
+last_of c = if c then (lands second 1 2).entry ∷ [] else []
+
+abbrev listed_of : Bool → Bool → Entries
+listed_of b c = if b then (lists first 0).entry ∷ last_of c else last_of c
+
+abbrev told_if : Bool → Bool → Option ℕ
+told_if b c = started_at (if b then (starts first 2).entry ∷ listed_of b c else listed_of b c)
+
+starts_two : (tag : Tag) (start : ℕ) → started_at (own tag (entries_of (starts first 2 ∷ lists first 0 ∷ lands second 1 2 ∷ []))) ≡ Some start → start ≡ 2
+starts_two tag start h = by (same_tag tag first) (same_tag tag second) h
+  where
+    by : (b c : Bool) → told_if b c ≡ Some start → start ≡ 2
+    by true c k = sym (some_same 2 start k)
+    by false true k = absurd (no_some start k)
+    by false false k = absurd (no_some start k)
+
+later_three : NewerLandLater (starts first 2 ∷ lists first 0 ∷ lands second 1 2 ∷ [])
+later_three tag read start v p reads started above small is =
+    let same = starts_two tag start started in
+    subst (λ (q : Put). start ≤ q.at) (one_under (landed second 1 2) p (commit_text v) is).1 (omega (arith, same))
+
+later_holds : AtEachMoment NewerLandLater (starts first 2 ∷ lists first 0 ∷ lands second 1 2 ∷ [])
+later_holds [] after parts = λ tag read start v p reads started above small is. absurd (no_some p is)
+later_holds (x ∷ []) after parts =
+    subst (λ (a : Moment). NewerLandLater (a ∷ [])) (same_head (starts first 2) x (lists first 0 ∷ lands second 1 2 ∷ []) after parts).0 (λ tag read start v p reads started above small is. absurd (no_some p is))
+later_holds (x ∷ y ∷ []) after parts =
+    let one = same_head (starts first 2) x (lists first 0 ∷ lands second 1 2 ∷ []) (y ∷ after) parts in
+    let two = same_head (lists first 0) y (lands second 1 2 ∷ []) after one.1 in
+    subst (λ (a : Moment). NewerLandLater (a ∷ y ∷ [])) one.0 (subst (λ (a : Moment). NewerLandLater (starts first 2 ∷ a ∷ [])) two.0 (λ tag read start v p reads started above small is. absurd (no_some p is)))
+later_holds (x ∷ y ∷ z ∷ []) after parts =
+    let one = same_head (starts first 2) x (lists first 0 ∷ lands second 1 2 ∷ []) (y ∷ z ∷ after) parts in
+    let two = same_head (lists first 0) y (lands second 1 2 ∷ []) (z ∷ after) one.1 in
+    let three = same_head (lands second 1 2) z [] after two.1 in
+    subst (λ (a : Moment). NewerLandLater (a ∷ y ∷ z ∷ [])) one.0 (subst (λ (a : Moment). NewerLandLater (starts first 2 ∷ a ∷ z ∷ [])) two.0 (subst (λ (a : Moment). NewerLandLater (starts first 2 ∷ lists first 0 ∷ a ∷ [])) three.0 later_three))
+later_holds (x ∷ y ∷ z ∷ w ∷ before) after parts =
+    let one = same_head (starts first 2) x (lists first 0 ∷ lands second 1 2 ∷ []) (y ∷ z ∷ w ∷ (before ++ after)) parts in
+    let two = same_head (lists first 0) y (lands second 1 2 ∷ []) (z ∷ w ∷ (before ++ after)) one.1 in
+    absurd (no_more w before after (same_head (lands second 1 2) z [] (w ∷ (before ++ after)) two.1).1)
+
+-- a table without properties is at the weaker level
+weaker : (columns : List (List ℕ)) → level_of (Some (meta_of columns)) ≡ WriteSerializable
+unfolding entry_of
+weaker columns = refl
+
 pub views_mean : ViewsMean
 views_mean = record {
   newest = newest_holds;
@@ -160,7 +228,11 @@ views_mean = record {
   forgets = λ h. let le = h (put_of first 1) second 1 0 small_one (one_itself (put_of first 1)) (refl, omega arith) (ap (λ (o : Option ℕ). or_first o None) (reads_one 0 (omega arith))) in omega (arith, le);
   once = once_holds;
   twice = twice_refuted;
-  level = λ columns rows words. ap (λ (t : Commit). level_of t.meta) (commit_is (table_put columns ∷ []) 0 (table_put columns).body (table_commit columns) (ap body_of (one_itself (table_put columns))) (ap (option_map table_commit) (columns_read_back columns words)));
+  follows = follows_holds;
+  precedes = λ h. let k = h (lands first 0 1 ∷ []) (starts first 1 ∷ []) refl (commit_text 0) (landed first 0 1) (one_itself (landed first 0 1)) in no_some k.0 k.1;
+  later = later_holds;
+  early = λ h. let le = h (starts first 2 ∷ lists first 0 ∷ lands second 1 1 ∷ []) [] refl first 0 2 1 (landed second 1 1) (ap (λ (o : Option ℕ). or_first o None) (reads_one 0 (omega arith))) refl (omega arith) small_one (one_itself (landed second 1 1)) in omega (arith, le);
+  level = λ columns rows words. ap (λ (t : Commit). level_of t.meta) (commit_is (table_put columns ∷ []) 0 (table_put columns).body (table_commit columns) (ap body_of (one_itself (table_put columns))) (ap (option_map table_commit) (columns_read_back columns words))) ∙ weaker columns;
   strict = λ columns. refl;
   no_table = λ rows h. cc;
 }

@@ -15,9 +15,10 @@ use Rattle.table_rules.specs.Names.{commit_text}
 use Rattle.snapshot_replay.specs.Table.{Commit as LogCommit}
 use Rattle.statement_calls.specs.Texts.{read_commit, read_file}
 use Rattle.table_changes.specs.Rows.{Row}
-use Rattle.table_changes.specs.Table.{File, Meta, Commit, Level, Serializable, live_by, meta_by, schema_of, level_of, rows_in}
+use Rattle.table_changes.specs.Table.{File, MetaData, Commit, Level, Serializable, live_by, meta_by, level_of, rows_in}
 use Rattle.table_changes.specs.Operations.{Operation}
-use Rattle.table_laws.specs.Commits.{changes_of}
+use Rattle.table_files.specs.Commits.{nothing_said}
+use Rattle.table_laws.specs.Commits.{changes_of, schema_of}
 
 -- a put of a free name that took effect, with the clock at it
 pub record Put : Type 0 where
@@ -72,7 +73,7 @@ or_none (Some xs) = xs
 
 -- what a commit says, where it reads; else nothing
 abbrev pub or_nothing : Option LogCommit → Commit
-or_nothing None = record { blind = false; protocol = false; meta = None; txns = []; lines = [] }
+or_nothing None = nothing_said
 or_nothing (Some t) = changes_of t
 
 -- what the text put as a version's commit says
@@ -83,7 +84,7 @@ commit_at ps version = or_nothing (option_and_then (read_commit version) (body_o
 abbrev pub live_at : List Put → ℕ → List File
 live_at ps version = live_by (commit_at ps) version
 
-abbrev pub meta_at : List Put → ℕ → Option Meta
+abbrev pub meta_at : List Put → ℕ → Option MetaData
 meta_at ps version = meta_by (commit_at ps) version
 
 abbrev pub schema_at : List Put → ℕ → Option TableSchema
@@ -93,13 +94,13 @@ schema_at ps version = schema_of (meta_at ps version)
 abbrev pub level_for : {Scope : Type 0} → List Put → Operation Scope → ℕ → Level
 level_for ps op version = if op.strict then Serializable else level_of (meta_at ps version)
 
--- the rows of a file: those of the body put under its name. The interim text is read without a schema
-abbrev pub rows_of : List Put → Option TableSchema → File → List Row
-rows_of ps schema a = or_none (option_and_then read_file (body_of (put_under ps a.name)))
+-- the rows of a file: those of the body put under its name. The interim text is read without the table's metadata
+abbrev pub rows_of : List Put → Option MetaData → File → List Row
+rows_of ps meta a = or_none (option_and_then read_file (body_of (put_under ps a.name)))
 
--- the rows of a version: those of its live files, as its schema has them
+-- the rows of a version: those of its live files, as its metadata has them
 abbrev pub rows_at : List Put → ℕ → List Row
-rows_at ps version = rows_in (rows_of ps (schema_at ps version)) (live_at ps version)
+rows_at ps version = rows_in (rows_of ps (meta_at ps version)) (live_at ps version)
 
 -- the version's commit was put
 abbrev pub IsCommitted : List Put → ℕ → Type 0

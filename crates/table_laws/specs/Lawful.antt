@@ -9,6 +9,7 @@ use Rattle.table_laws.specs.Runs.{IsRun, replies_of}
 use Rattle.table_laws.specs.Laws.{VersionsAreSerial, CommitsOnce, FirstIsEmpty, FirstMakesTable, CommitsRead, FilesRead, CommitsLand, CommitPutsAreDecided, RepliesCreated, RepliesCommitted, RepliesRead}
 use Rattle.table_laws.specs.Folded.{RowsAreFolded}
 use Rattle.table_laws.specs.Views.{ListingIsNewest, ReadsNeverFall, ReadsCoverCommits, RowsOfOneSession, NamesPutOnce}
+use Rattle.table_laws.specs.Starts.{AtEachMoment, PutsFollowStarts, NewerLandLater}
 use Rattle.table_laws.specs.Refused.{RefusedCommitNothing}
 
 -- what holds of a journal, by the statement and the reply of each tag
@@ -37,6 +38,9 @@ pub record IsLawful (script : Tag → Option Statement) (replies : Tag → Optio
   pub session : RowsOfOneSession script moments
   -- each name is put once
   pub names : NamesPutOnce moments
+  -- at each moment: a statement's puts are no earlier than its start, and so are the commits above the version that it reads
+  pub starts : AtEachMoment PutsFollowStarts moments
+  pub later : AtEachMoment NewerLandLater moments
   -- replies say what was made, committed and read, and a refused statement has committed nothing, but where its refusal leaves that open
   pub created : RepliesCreated script replies moments
   pub committed : RepliesCommitted script replies moments

@@ -5,6 +5,7 @@ pub mod Runs
 pub mod Laws
 pub mod Folded
 pub mod Views
+pub mod Starts
 pub mod ViewsMean
 pub mod Refused
 pub mod Lawful
