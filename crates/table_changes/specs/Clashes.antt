@@ -34,6 +34,9 @@ pub record EachCaseClashes : Type 0 where
   pub delete_read : clash WriteSerializable Scans (commit false (adds false 3 ∷ removes false 1 ∷ [])) ≡ Some (DeleteRead (1 ∷ []))
   pub delete_delete : clash WriteSerializable Rewrites (commit false (removes true 2 ∷ removes true 1 ∷ [])) ≡ Some (DeleteDelete (1 ∷ []))
   pub append_first : clash Serializable Scans (commit false (removes true 1 ∷ adds true 3 ∷ [])) ≡ Some (Append (3 ∷ []))
+  -- one that takes no file out doesn't look at that, and one that isn't an insert at no transaction
+  pub delete_insert : clash Serializable Literal (commit false (removes true 1 ∷ [])) ≡ None
+  pub change_app : clash Serializable Scans (record (commit false []) { txns = (7 ∷ [], 1) ∷ [] }) ≡ None
   -- a transaction of the same application comes last
   pub same : clash Serializable Literal (record (commit false []) { txns = (8 ∷ [], 1) ∷ (7 ∷ [], 1) ∷ [] }) ≡ Some (Transaction (7 ∷ []))
   pub other : clash Serializable Literal (record (commit false []) { txns = (8 ∷ [], 1) ∷ [] }) ≡ None

@@ -2,8 +2,9 @@
 use Rattle.std.specs.Prelude.{ℕ, Bool, true, false, not, ◌&&◌, ◌||◌, if◌then◌else◌, List, [], ◌∷◌, Option, Some, None, option_map}
 use Rattle.table_changes.specs.Table.{File, FileLine, Removes, Adds, Level, Serializable, WriteSerializable, Commit, is_blind, has_path, number_in}
 
--- what a statement looks at in a winner's lines: one that makes a table at any winner, an insert of literal rows and a change of the
--- table's settings at no file, one that reads rows at the files that may match its scope, one that rewrites files at those alone
+-- what a statement looks at in a winner's lines: one that makes a table at any winner, an insert of literal rows at the applications of
+-- transactions and at no file, a change of the table's settings at no file, one that reads rows at new files that may match its scope and
+-- at removes of files that it got or takes out, one that rewrites files at removes of files that it takes out, and at no others
 pub data LooksAt : Type 0 where
   Makes : LooksAt
   Literal : LooksAt
@@ -22,6 +23,14 @@ is_literal k = false
 abbrev pub is_scan : LooksAt → Bool
 is_scan Scans = true
 is_scan k = false
+
+-- whether it may take files out
+abbrev pub may_remove : LooksAt → Bool
+may_remove Makes = false
+may_remove Literal = false
+may_remove Settings = false
+may_remove Scans = true
+may_remove Rewrites = true
 
 pub data Clash : Type 0 where
   Protocol : Clash
@@ -90,5 +99,5 @@ first_clash r t =
     (clash_or (where_true (is_set t.meta) (Some Metadata))
     (clash_or (where_true (is_scan r.kind && counts_at r.level t) (option_map Append (first_match r.may t.lines)))
     (clash_or (where_true (is_scan r.kind) (option_map DeleteRead (first_removed r.got t.lines)))
-    (clash_or (option_map DeleteDelete (first_removed r.removed t.lines))
-    (same_app r.app t.txns)))))
+    (clash_or (where_true (may_remove r.kind) (option_map DeleteDelete (first_removed r.removed t.lines)))
+    (where_true (is_literal r.kind) (same_app r.app t.txns))))))

@@ -4,7 +4,7 @@ use Rattle.std.specs.List.{filter}
 use Rattle.row_base.specs.Bags.{count_of, SameRows, others}
 use Rattle.table_changes.specs.Rows.{Row}
 use Rattle.table_changes.specs.Table.{File, Level, rows_in, paths_of}
-use Rattle.table_changes.specs.Conflicts.{LooksAt, is_literal, is_scan, Reads}
+use Rattle.table_changes.specs.Conflicts.{LooksAt, is_literal, is_scan, may_remove, Reads}
 
 -- an operation, by the scopes that statements name
 pub record Operation (Scope : Type 0) : Type 0 where
@@ -13,8 +13,9 @@ pub record Operation (Scope : Type 0) : Type 0 where
   pub scope : Scope
   -- what comes in place of the scope's rows, where that is defined
   pub gives : List Row → Option (List Row)
-  -- whether a live file is got, and whether it is taken out
+  -- whether a live file is got
   pub gets : List File → File → Bool
+  -- whether it is taken out, by the rows of the files too
   pub takes : (File → List Row) → List File → File → Bool
   -- the new files' rows
   pub writes : (File → List Row) → List File → Option (List Row)
@@ -64,11 +65,15 @@ module _ {Scope : Type 0} (passes : Scope → Row → Bool) where
     }
 
     pub record IsSound (op : Operation Scope) : Type 0 where
+      -- the same rows give the same rows, whatever their order
       pub respects : (xs ys : List Row) → SameRows xs ys → SameIfGiven (op.gives xs) (op.gives ys)
+      -- one that isn't checked against new files names no rows
       pub quiet : (is_scan op.kind ≡ true) ⊎ ((x : Row) → passes op.scope x ≡ false)
       -- an operation that reads rows gets each file that may match, and takes out such as it got
       pub complete : is_scan op.kind ≡ true → (fs : List File) (a : File) → may op.scope a ≡ true → op.gets fs a ≡ true
       pub got : is_scan op.kind ≡ true → (view : File → List Row) (fs : List File) (a : File) → op.takes view fs a ≡ true → op.gets fs a ≡ true
+      -- one that looks at no file takes none out
+      pub leaves : may_remove op.kind ≡ false → (view : File → List Row) (fs : List File) (a : File) → op.takes view fs a ≡ false
       -- only what it got decides
       pub local : (view other : File → List Row) (fs : List File) → Agree view other (got_files op fs) → (op.writes view fs ≡ op.writes other fs) × (taken_files view op fs ≡ taken_files other op fs)
       -- the new rows and the scope's old ones are the rows taken out and what comes in the scope's place

@@ -24,7 +24,7 @@ use Rattle.table_changes.proofs.Files.{live_once}
 use Rattle.table_changes.proofs.Winners.{each_version_is_serial}
 use Rattle.table_laws.specs.Commits.{IsWholeFile, schema_of, files_in, meta_in}
 use Rattle.table_laws.specs.Operations.{Scope, passes, may, operation_of}
-use Rattle.table_laws.specs.History.{Put, put_under, body_of, commit_at, live_at, meta_at, schema_at, level_for, rows_of, rows_at, IsCommitted}
+use Rattle.table_laws.specs.History.{Put, put_under, body_of, commit_at, live_at, meta_at, schema_at, level_for, rows_of, view_of, rows_at, IsCommitted}
 use Rattle.table_laws.specs.Runs.{listed_by, version_read}
 use Rattle.table_laws.specs.Laws.{schema_read, operation_by, operation_at, inserted_by, appended, Step, versions_from, IsWonBefore, Lands, HasRead, ReadsAt, AllAre, FileReads, AllFilesRead}
 use Rattle.table_laws.proofs.CommitEffects.{plan_of, effect_of, Says, IsWhole, judge_of}
@@ -208,11 +208,15 @@ module _ (K : Tag → List ℕ → List ℕ → Type 0) (script : Tag → Option
       ∙ q.2 t reads
 
   -- what files say of their rows is true
-  all_hold : (v : ℕ) (fs : List File) → AllHold passes may (commit_at ps) (rows_of ps) (suc v) fs
+  all_hold : (v : ℕ) (fs : List File) → AllHold passes may (commit_at ps) (view_of ps) (suc v) fs
   all_hold v [] = tt
   all_hold v (f ∷ fs) = (λ o out x has. says_truly f (rows_of ps (meta_at ps (suc v)) f) o out x has, all_hold v fs)
 
-  landed : (v : ℕ) (p : Put) (small : suc v < 2 ^ 64) → put_under ps (commit_text (suc v)) ≡ Some p → Landed passes may (commit_at ps) (rows_of ps) v
+  -- no statement of today sets metadata
+  meta_kept : (v : ℕ) (p : Put) (small : suc v < 2 ^ 64) → put_under ps (commit_text (suc v)) ≡ Some p → meta_at ps (suc v) ≡ meta_at ps v
+  meta_kept v p small is = ap (λ (t : Commit). newer (meta_at ps v) t.meta) (says v p small is)
+
+  landed : (v : ℕ) (p : Put) (small : suc v < 2 ^ 64) → put_under ps (commit_text (suc v)) ≡ Some p → Landed passes may (commit_at ps) (view_of ps) v
   landed v p small is = record {
     op = (s.commits v p small is).op;
     sound = sound v p small is;
@@ -222,8 +226,7 @@ module _ (K : Tag → List ℕ → List ℕ → Type 0) (script : Tag → Option
     written = written v p small is;
     added = (s.commits v p small is).added;
     filled = filled v p small is (meta_at ps (suc v));
-    widen = λ x. x;
-    widens = inl (record { same = ap (λ (t : Commit). rows_of ps (newer (meta_at ps v) t.meta)) (says v p small is); still = λ x. refl });
+    widens = inl (record { schema = ap schema_of (meta_kept v p small is); same = ap (rows_of ps) (meta_kept v p small is) });
     stamp = 0;
     lines = ap (λ (t : Commit). t.lines) (says v p small is);
     blind = ap (λ (t : Commit). is_blind t) (says v p small is);
@@ -267,7 +270,7 @@ module _ (K : Tag → List ℕ → List ℕ → Type 0) (script : Tag → Option
   within : (n k : ℕ) → n < 2 ^ 64 → k < n → suc k < 2 ^ 64
   within n k small lt = omega arith
 
-  pub facts : (n : ℕ) → n < 2 ^ 64 → IsCommitted ps n → (k : ℕ) → k < n → Landed passes may (commit_at ps) (rows_of ps) k
+  pub facts : (n : ℕ) → n < 2 ^ 64 → IsCommitted ps n → (k : ℕ) → k < n → Landed passes may (commit_at ps) (view_of ps) k
   facts n small is k lt = let two = commit_put n small is k lt in landed k two.0 (within n k small lt) two.1
 
   module _ (journal : Entries) (is_past : past ≡ backwards [] journal) where
@@ -279,7 +282,7 @@ module _ (K : Tag → List ℕ → List ℕ → Type 0) (script : Tag → Option
         ap (operation_by script journal ps) is ∙ ap (λ (o : Option ℕ). option_and_then (operation_of (schema_read ps o)) (script p.tag)) read
         ∙ ap (λ (o : Option Statement). option_and_then (operation_of (schema_at ps k.read)) o) k.is_statement ∙ is_op v p small is
 
-    pub is_appended : (n : ℕ) (small : n < 2 ^ 64) (is : IsCommitted ps n) → Appends passes may (commit_at ps) (rows_of ps) n (facts n small is) (appended script journal ps)
+    pub is_appended : (n : ℕ) (small : n < 2 ^ 64) (is : IsCommitted ps n) → Appends passes may (commit_at ps) (view_of ps) n (facts n small is) (appended script journal ps)
     unfolding facts landed
     is_appended n small is k lt = let p = commit_put n small is k lt in ap inserted_by (operation_is k p.0 (within n k small lt) p.1)
 
@@ -294,9 +297,8 @@ module _ (K : Tag → List ℕ → List ℕ → Type 0) (script : Tag → Option
         let p = commit_put n small is k lt in
         (p.0, p.1, sym (given_is listed_by (p.0).tag past journal is_past) ∙ (s.commits k p.0 (within n k small lt) p.1).listed)
 
-    pub widen_is : (n : ℕ) (small : n < 2 ^ 64) (is : IsCommitted ps n) (k : ℕ) (lt : k < n) → (λ x. x) ≡ (facts n small is k lt).widen
-    unfolding facts landed
-    widen_is n small is k lt = refl
+    pub meta_is_kept : (n : ℕ) → n < 2 ^ 64 → IsCommitted ps n → (k : ℕ) → k < n → meta_at ps (suc k) ≡ meta_at ps k
+    meta_is_kept n small is k lt = let p = commit_put n small is k lt in meta_kept k p.0 (within n k small lt) p.1
 
     pub step : (v : ℕ) → suc v < 2 ^ 64 → IsCommitted ps (suc v) → Step script journal ps v
     unfolding facts landed
@@ -317,7 +319,8 @@ module _ (K : Tag → List ℕ → List ℕ → Type 0) (script : Tag → Option
           is_op = is_op v two.0 (within (suc v) v small lt) two.1;
           commit = said.0;
           reads = said.1;
-          serial = each_version_is_serial Scope passes may (commit_at ps) (rows_of ps) (suc v) (facts (suc v) small is) (appended script journal ps) (empty_first ps) (is_appended (suc v) small is) v lt;
+          kept = meta_kept v two.0 (within (suc v) v small lt) two.1;
+          serial = each_version_is_serial Scope passes may (commit_at ps) (view_of ps) (suc v) (facts (suc v) small is) (appended script journal ps) (empty_first ps) (is_appended (suc v) small is) v lt;
         }
 
     -- a version between was committed before, and not by the same statement

@@ -8,8 +8,7 @@ use Rattle.op_types.specs.declared.statement.Statement.TheVariants.{Table, Inser
 use Rattle.op_types.specs.declared.statement.TableSpec.{TableSpec}
 use Rattle.snapshot_replay.specs.Table.{Snapshot}
 use Rattle.table_changes.specs.Rows.{Row}
-use Rattle.table_changes.specs.Table.{File, FileLine, Removes, Adds}
-use Rattle.table_changes.specs.Conflicts.{first_removed}
+use Rattle.table_changes.specs.Table.{File}
 use Rattle.table_changes.specs.Operations.{Operation, IsSound}
 use Rattle.table_changes.specs.Statements.{insert_of, making_of}
 use Rattle.table_changes.proofs.Statements.{insert_sound, making_sound}
@@ -51,8 +50,3 @@ inserts_rows s columns there rows = ap (λ (o : Option (List (List ℕ))). opera
 pub none_picked : (fs : List File) → filter (λ a. false) fs ≡ []
 none_picked [] = refl
 none_picked (a ∷ fs) = none_picked fs
-
-pub none_removed : (ls : List FileLine) → first_removed [] ls ≡ None
-none_removed [] = refl
-none_removed (Removes t changes ∷ ls) = none_removed ls
-none_removed (Adds a changes ∷ ls) = none_removed ls

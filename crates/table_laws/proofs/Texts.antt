@@ -9,14 +9,14 @@ use Rattle.line_texts.proofs.Laws.{path_reads_back}
 use Rattle.snapshot_replay.specs.Table.{Commit, table_commit, append_commit}
 use Rattle.statement_calls.specs.Texts.{read_commit}
 use Rattle.table_changes.specs.Rows.{Row}
-use Rattle.table_changes.specs.Table.{File, FileLine, MetaData, paths_of}
-use Rattle.table_changes.specs.Conflicts.{DeleteDelete, clash_or, first_removed, first_clash}
+use Rattle.table_changes.specs.Table.{File, FileLine, MetaData}
+use Rattle.table_changes.specs.Conflicts.{first_clash}
 use Rattle.table_changes.specs.Operations.{reads_of}
 use Rattle.table_changes.specs.Statements.{insert_of}
 use Rattle.table_laws.specs.Commits.{line_of, info_of, protocol_of, meta_of}
 use Rattle.table_laws.specs.Operations.{NoRow, passes, may}
 use Rattle.table_laws.proofs.CommitEffects.{new_file, plan_of, said, Writes, level_in, judge_of}
-use Rattle.table_laws.proofs.Sound.{none_picked, none_removed}
+use Rattle.table_laws.proofs.Sound.{none_picked}
 
 later : (v : ℕ) → (suc v == 0) ≡ false
 later v = grind (arith, nat_tests)
@@ -54,5 +54,3 @@ append_clears meta rows view fs v text t reads =
     let lines : List FileLine = map (line_of t.changes) t.lines in
     ap (λ (o : Option (List (List ℕ))). first_clash (reads_of passes may (level_in op meta) None view op fs) (record { info = Some (info_of t.blind); protocol = option_map protocol_of o; meta = option_map meta_of o; txns = []; lines = lines }))
     (no_columns v text t reads)
-    ∙ ap (λ (gone : List File). clash_or (option_map DeleteDelete (first_removed (paths_of gone) lines)) None) (none_picked fs)
-    ∙ ap (λ (o : Option (List ℕ)). clash_or (option_map DeleteDelete o) None) (none_removed lines)

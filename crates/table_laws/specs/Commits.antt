@@ -1,5 +1,5 @@
 -- The seam to the interim texts: what their commits and their snapshots say, in the words of tables (table_files). The history of a run cites it at each version,
--- and the proofs of a load go by it from a snapshot to a version. When the texts are those of the Delta log, this file goes.
+-- and the proofs of a load go by it from a snapshot to a version.
 -- The crate above cites each_run_is_lawful alone.
 use Rattle.std.specs.Prelude.{◌≡◌, ℕ, Bool, true, false, List, [], map, Option, Some, None, option_map}
 use Rattle.log_actions.specs.declared.action.CommitInfo.{CommitInfo}

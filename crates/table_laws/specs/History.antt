@@ -1,5 +1,5 @@
 -- The versions of a table, by the puts that took effect in a journal: which are committed, and their metadata, live files and rows. The law (Laws) speaks
--- of a journal by these words alone, so retention may add what stands at each prefix.
+-- of a journal by these words alone.
 -- The crate above cites each_run_is_lawful alone.
 use Rattle.std.specs.Prelude.{ℕ, Bool, if◌then◌else◌, List, [], ◌∷◌, ◌++◌, Option, Some, None, IsSome, option_and_then}
 use Rattle.std.specs.Str.{bytes_eq}
@@ -15,7 +15,7 @@ use Rattle.table_rules.specs.Names.{commit_text}
 use Rattle.snapshot_replay.specs.Table.{Commit as LogCommit}
 use Rattle.statement_calls.specs.Texts.{read_commit, read_file}
 use Rattle.table_changes.specs.Rows.{Row}
-use Rattle.table_changes.specs.Table.{File, MetaData, Commit, Level, Serializable, live_by, meta_by, level_of, rows_in}
+use Rattle.table_changes.specs.Table.{File, MetaData, Commit, View, Level, Serializable, live_by, meta_by, level_of, rows_in}
 use Rattle.table_changes.specs.Operations.{Operation}
 use Rattle.table_files.specs.Commits.{nothing_said}
 use Rattle.table_laws.specs.Commits.{changes_of, schema_of}
@@ -97,6 +97,10 @@ level_for ps op version = if op.strict then Serializable else level_of (meta_at 
 -- the rows of a file: those of the body put under its name. The interim text is read without the table's metadata
 abbrev pub rows_of : List Put → Option MetaData → File → List Row
 rows_of ps meta a = or_none (option_and_then read_file (body_of (put_under ps a.name)))
+
+-- how a table is seen by its metadata
+abbrev pub view_of : List Put → View
+view_of ps = record { schema = schema_of; rows = rows_of ps }
 
 -- the rows of a version: those of its live files, as its metadata has them
 abbrev pub rows_at : List Put → ℕ → List Row

@@ -56,7 +56,7 @@ abbrev pub appended : (Tag → Option Statement) → Entries → List Put → �
 appended script journal ps version = inserted_by (operation_at script journal ps version)
 
 -- Version v + 1 follows from the version before by the operation of the one statement that put its commit, and by the version that this one read, at the
--- level of the table that it read. No statement of today changes the schema, so each row stays as it is
+-- level of the table that it read. No statement of today changes the metadata, so each row stays as it is
 pub record Step (script : Tag → Option Statement) (journal : Entries) (ps : List Put) (v : ℕ) : Type 0 where
   pub previous : IsCommitted ps v
   pub by : Put
@@ -69,7 +69,8 @@ pub record Step (script : Tag → Option Statement) (journal : Entries) (ps : Li
   pub is_op : operation_of (schema_at ps read) statement ≡ Some op
   pub commit : LogCommit
   pub reads : read_commit (suc v) by.body ≡ Some commit
-  pub serial : SerialStep passes (level_for ps op read) (meta_at ps) (rows_at ps) (appended script journal ps) op (λ x. x) read v
+  pub kept : meta_at ps (suc v) ≡ meta_at ps v
+  pub serial : SerialStep passes (level_for ps op read) (meta_at ps) (schema_at ps) (rows_at ps) (appended script journal ps) op read v
 
 -- each version is the one before with one statement's operation done. Versions are so contiguous from 0
 abbrev pub VersionsAreSerial : (Tag → Option Statement) → List Moment → Type 0

@@ -76,7 +76,7 @@ abbrev pub first_given : (Call → Answer → Option ℕ) → Entries → Option
 first_given by [] = None
 first_given by (e ∷ es) = or_first (by e.call e.answer) (first_given by es)
 
--- the version that a statement reads, and its start, by its entries
+-- the version that a statement reads, by its entries
 abbrev pub version_read : Entries → Option ℕ
 version_read es = first_given listed_by es
 

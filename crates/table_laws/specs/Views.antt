@@ -1,5 +1,5 @@
 -- What a statement sees: the newest version of its moment, and so none older than its session has seen or committed before. And each name is put once.
--- IsLawful (Lawful) lists these laws, and the laws of retention will stand on them.
+-- IsLawful (Lawful) lists these laws.
 -- The crate above cites each_run_is_lawful, and views_mean, which shows what the words mean by short journals.
 use Rattle.std.specs.Prelude.{◌≡◌, ℕ, ◌<◌, ◌≤◌, ◌^◌, List, [], ◌∷◌, ◌++◌, Option, Some, None}
 use Rattle.edge_api.specs.declared.call.Tag.{Tag}
