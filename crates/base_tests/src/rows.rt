@@ -104,11 +104,17 @@ fn texts_are_kept_and_ordered(rt: HostRuntime) -> Result<(), Fail> {
     Ok(())
 }
 
+/// The number 7 under a text.
+fn seven_under(alloc: Global, text: Text) -> Result<BTreeMap<Text, u64>, NoMemory> {
+    let mut sizes = BTreeMap::new(alloc);
+    sizes.insert(text, 7u64)?;
+    Ok(sizes)
+}
+
 #[test]
 fn texts_are_keys(rt: HostRuntime) -> Result<(), Fail> {
     let text = Text::make(rt.alloc(), "b")?;
-    let mut sizes = BTreeMap::new(rt.alloc());
-    sizes.insert(text.copy()?, 7u64)?;
+    let sizes = seven_under(rt.alloc(), text.copy()?)?;
     assert!(rt; sizes.get(&text).copied() == Some(7));
     Ok(())
 }
@@ -139,18 +145,21 @@ fn has_fault(
     Ok(Schema::make(columns, partition).err() == Some(want))
 }
 
-/// Columns that can't partition the three: past them, named before, and without one that is left for data.
-const BAD_PLACES: [(&[u32], u32); 3] = [(&[1, 3], 3), (&[1, 1], 1), (&[2, 0, 1], 1)];
+/// Columns and places that make no schema. The first three can't partition: past the columns, named before, and without
+/// one that is left for data.
+const FAULTY: [(&[Told], &[u32], SchemaFault); 5] = [
+    (&THREE, &[1, 3], SchemaFault::Partition { place: 3 }),
+    (&THREE, &[1, 1], SchemaFault::Partition { place: 1 }),
+    (&THREE, &[2, 0, 1], SchemaFault::Partition { place: 1 }),
+    (&[], &[], SchemaFault::Columns),
+    (&P_TWICE, &[], SchemaFault::Twice { column: 3 }),
+];
 
 #[test]
 fn schemas_name_their_first_fault(rt: HostRuntime) -> Result<(), Fail> {
-    let alloc = rt.alloc();
-    for (partition, place) in BAD_PLACES {
-        let want = SchemaFault::Partition { place };
-        assert!(rt; has_fault(alloc, &THREE, partition, want)?);
+    for (told, partition, want) in FAULTY {
+        assert!(rt; has_fault(rt.alloc(), told, partition, want)?);
     }
-    assert!(rt; has_fault(alloc, &[], &[], SchemaFault::Columns)?);
-    assert!(rt; has_fault(alloc, &P_TWICE, &[], SchemaFault::Twice { column: 3 })?);
     Ok(())
 }
 
@@ -168,15 +177,26 @@ fn place_in(alloc: Global, schema: &Schema, name: &str) -> Option<u32> {
     schema.place_of(&name)
 }
 
+/// Whether this is the schema of the three columns, partitioned by `p`.
+fn is_three(alloc: Global, schema: &Schema) -> bool {
+    schema.columns().len() == 3
+        && schema.partition() == [1].as_slice()
+        && schema.is_partition(1)
+        && place_in(alloc, schema, "n") == Some(2)
+}
+
 #[test]
 fn schemas_are_read_and_copied(rt: HostRuntime) -> Result<(), Fail> {
     let schema = copied_schema(rt.alloc())?;
     may_cross(&schema);
-    assert!(rt; schema.columns().len() == 3);
-    assert!(rt; schema.partition() == [1].as_slice());
-    assert!(rt; schema.is_partition(1));
-    assert!(rt; place_in(rt.alloc(), &schema, "n") == Some(2));
-    assert!(rt; schema.into_parts().1.len() == 1);
+    assert!(rt; is_three(rt.alloc(), &schema));
+    Ok(())
+}
+
+#[test]
+fn schemas_are_taken_apart(rt: HostRuntime) -> Result<(), Fail> {
+    let (columns, partition) = copied_schema(rt.alloc())?.into_parts();
+    assert!(rt; columns.len() == 3 && partition.len() == 1);
     Ok(())
 }
 
@@ -229,20 +249,24 @@ fn is_back(settled: Result<Row, Unsettled>, came: &Row, fault: RowFault) -> bool
     }
 }
 
+/// A row, settled beside the three columns.
+fn settled(alloc: Global, row: Row) -> Result<Result<Row, Unsettled>, NoMemory> {
+    let schema = schema_of(alloc, &[])?;
+    Ok(schema.settle(row))
+}
+
 /// Whether a row settles to the other.
 fn settles(alloc: Global, plain: &[Plain], want: &[Plain]) -> Result<bool, NoMemory> {
     let want = row(alloc, want)?;
-    let schema = schema_of(alloc, &[])?;
-    let row = row(alloc, plain)?;
-    Ok(is_row(schema.settle(row), &want))
+    let settled = settled(alloc, row(alloc, plain)?)?;
+    Ok(is_row(settled, &want))
 }
 
 /// Whether a row comes back with this fault.
 fn comes_back(alloc: Global, plain: &[Plain], fault: RowFault) -> Result<bool, NoMemory> {
-    let row = row(alloc, plain)?;
-    let came = row.copy(alloc)?;
-    let schema = schema_of(alloc, &[])?;
-    Ok(is_back(schema.settle(row), &came, fault))
+    let came = row(alloc, plain)?;
+    let settled = settled(alloc, came.copy(alloc)?)?;
+    Ok(is_back(settled, &came, fault))
 }
 
 #[test]
@@ -280,23 +304,17 @@ const ORDERS: [(&[Plain], &[Plain], Ordering); 4] = [
     ),
 ];
 
-/// Whether rows compare so.
-fn compare_so(
-    alloc: Global,
-    first: &[Plain],
-    second: &[Plain],
-    want: Ordering,
-) -> Result<bool, NoMemory> {
-    let first = row(alloc, first)?;
-    let second = row(alloc, second)?;
-    let order = cmp_rows(first.as_slice(), second.as_slice());
-    Ok(order == want && (first < second) == want.is_lt())
+/// Whether two rows compare so.
+fn have_order(first: &Row, second: &Row, want: Ordering) -> bool {
+    cmp_rows(first.as_slice(), second.as_slice()) == want && (first < second) == want.is_lt()
 }
 
 #[test]
 fn rows_are_ordered(rt: HostRuntime) -> Result<(), Fail> {
     for (first, second, want) in ORDERS {
-        assert!(rt; compare_so(rt.alloc(), first, second, want)?);
+        let first = row(rt.alloc(), first)?;
+        let second = row(rt.alloc(), second)?;
+        assert!(rt; have_order(&first, &second, want));
     }
     Ok(())
 }
@@ -358,16 +376,30 @@ fn longs_text(alloc: Global, rows: RowSlice<'_>) -> String {
     text
 }
 
+/// Whether these are the first longs of the rows, each behind a space.
+fn have_longs(alloc: Global, rows: RowSlice<'_>, want: &str) -> bool {
+    longs_text(alloc, rows).as_str() == want
+}
+
 /// A column's data, to be taken from.
 fn column_data(alloc: Global, plain: &[Plain]) -> Result<VecDeque<Datum>, NoMemory> {
     Ok(VecDeque::from_vec(data(alloc, plain)?))
 }
 
-/// The two rows of the columns 4, 5 and 6.
-fn side_by_side(alloc: Global) -> Result<Rows, NoMemory> {
+/// Two columns, the second of which is the shorter.
+const COLUMNS: [&[Plain]; 2] = [&[Plain::Long(4), Plain::Long(5)], &[Plain::Long(6)]];
+
+fn two_columns(alloc: Global) -> Result<Vec<VecDeque<Datum>>, NoMemory> {
     let mut columns = Vec::new(alloc);
-    columns.push(column_data(alloc, &[Plain::Long(4), Plain::Long(5)])?)?;
-    columns.push(column_data(alloc, &[Plain::Long(6)])?)?;
+    for plain in COLUMNS {
+        columns.push(column_data(alloc, plain)?)?;
+    }
+    Ok(columns)
+}
+
+/// The two rows of the two columns.
+fn side_by_side(alloc: Global) -> Result<Rows, NoMemory> {
+    let mut columns = two_columns(alloc)?;
     let mut rows = Rows::new(alloc);
     rows.reserve(2, 4)?;
     rows.push_next(columns.as_mut_slice())?;
@@ -375,37 +407,60 @@ fn side_by_side(alloc: Global) -> Result<Rows, NoMemory> {
     Ok(rows)
 }
 
+/// Whether a row has these longs, the second of which may be null.
+fn is_pair(row: Option<&[Datum]>, first: i64, second: Option<i64>) -> bool {
+    match row {
+        Some([Datum::Long(a), Datum::Long(b)]) => *a == first && Some(*b) == second,
+        Some([Datum::Long(a), Datum::Null]) => *a == first && second.is_none(),
+        _ => false,
+    }
+}
+
+/// Whether these are the two rows.
+fn are_pairs(rows: &Rows) -> bool {
+    rows.len() == 2 && is_pair(rows.get(0), 4, Some(6)) && is_pair(rows.get(1), 5, None)
+}
+
 #[test]
 fn columns_become_rows(rt: HostRuntime) -> Result<(), Fail> {
     let rows = side_by_side(rt.alloc())?;
-    assert!(rt; rows.len() == 2);
-    assert!(rt; rows.get(0) == Some(&[Datum::Long(4), Datum::Long(6)]));
-    assert!(rt; rows.get(1) == Some(&[Datum::Long(5), Datum::Null]));
+    assert!(rt; are_pairs(&rows));
     Ok(())
+}
+
+/// Whether these are the eight rows.
+fn are_eight(alloc: Global, rows: &Rows) -> bool {
+    !rows.is_empty()
+        && rows.len() == 8
+        && long_of(rows.get(3)) == Some(9)
+        && long_of(rows.get(8)) == None
+        && have_longs(alloc, rows.iter(), " 3 1 2 9 3 1 2 9")
 }
 
 #[test]
 fn rows_are_kept_in_one_list(rt: HostRuntime) -> Result<(), Fail> {
     let rows = eight_rows(rt.alloc())?;
     may_cross(&rows);
-    assert!(rt; !rows.is_empty() && rows.len() == 8);
-    assert!(rt; long_of(rows.get(3)) == Some(9));
-    assert!(rt; long_of(rows.get(8)) == None);
-    let text = longs_text(rt.alloc(), rows.iter());
-    assert!(rt; text.as_str() == " 3 1 2 9 3 1 2 9");
+    assert!(rt; are_eight(rt.alloc(), &rows));
     Ok(())
+}
+
+/// Whether the eight rows are cut behind the fifth.
+fn are_cut(alloc: Global, all: RowSlice<'_>) -> bool {
+    if all.len() < 5 {
+        return false;
+    }
+    let (front, back) = all.split_at(5);
+    front.len() == 5
+        && !back.is_empty()
+        && long_of(back.get(0)) == Some(1)
+        && have_longs(alloc, back, " 1 2 9")
 }
 
 #[test]
 fn rows_are_cut(rt: HostRuntime) -> Result<(), Fail> {
     let rows = eight_rows(rt.alloc())?;
-    let all = rows.iter();
-    assert!(rt; 5 <= all.len());
-    let (front, back) = all.split_at(5);
-    assert!(rt; front.len() == 5 && !back.is_empty());
-    assert!(rt; long_of(back.get(0)) == Some(1));
-    let text = longs_text(rt.alloc(), back);
-    assert!(rt; text.as_str() == " 1 2 9");
+    assert!(rt; are_cut(rt.alloc(), rows.iter()));
     Ok(())
 }
 
@@ -418,8 +473,7 @@ fn in_order(alloc: Global) -> Result<Rows, NoMemory> {
 #[test]
 fn rows_are_sorted(rt: HostRuntime) -> Result<(), Fail> {
     let ordered = in_order(rt.alloc())?;
-    let text = longs_text(rt.alloc(), ordered.iter());
-    assert!(rt; text.as_str() == " 1 1 2 2 3 3 9 9");
+    assert!(rt; have_longs(rt.alloc(), ordered.iter(), " 1 1 2 2 3 3 9 9"));
     Ok(())
 }
 
@@ -437,13 +491,18 @@ fn rows_are_taken_apart(rt: HostRuntime) -> Result<(), Fail> {
     Ok(())
 }
 
-#[test]
-fn files_are_copied(rt: HostRuntime) -> Result<(), Fail> {
-    let rows = three_rows(rt.alloc())?;
-    let path = Text::make(rt.alloc(), "f")?;
+/// A copy of a file of the three rows.
+fn copied_file(alloc: Global) -> Result<ScannedFile, NoMemory> {
+    let path = Text::make(alloc, "f")?;
+    let rows = three_rows(alloc)?;
     let file = ScannedFile { path, rows };
     may_cross(&file);
-    let copy = file.copy(rt.alloc())?;
+    file.copy(alloc)
+}
+
+#[test]
+fn files_are_copied(rt: HostRuntime) -> Result<(), Fail> {
+    let copy = copied_file(rt.alloc())?;
     assert!(rt; copy.rows.len() == 3);
     Ok(())
 }

@@ -292,24 +292,7 @@ fn fails(alloc: Global, how: How, row: Failing) -> Result<bool, NoMemory> {
     Ok(leaves(alloc, &mut world, row) && put)
 }
 
-const NOT_DONE: [Failing; 7] = [
-    (CallKind::Get, "a", "old", "", 5),
-    (CallKind::PutNew, "b", "old", "", 5),
-    (CallKind::Put, "a", "old", "", 5),
-    (CallKind::List, "", "old", "", 5),
-    (CallKind::Delete, "a", "old", "", 5),
-    (CallKind::Now, "", "old", "", 5),
-    (CallKind::Wait, "", "old", "", 5),
-];
-
-#[test]
-fn a_call_that_is_not_done_changes_nothing(rt: HostRuntime) -> Result<(), Fail> {
-    for row in NOT_DONE {
-        assert!(rt; fails(rt.alloc(), How::NotDone, row)?);
-    }
-    Ok(())
-}
-
+/// Calls of which no answer is heard.
 const UNHEARD: [Failing; 8] = [
     (CallKind::Get, "a", "old", "", 5),
     (CallKind::PutNew, "b", "old", "new", 5),
@@ -320,6 +303,14 @@ const UNHEARD: [Failing; 8] = [
     (CallKind::Now, "", "old", "", 5),
     (CallKind::Wait, "", "old", "", 8),
 ];
+
+#[test]
+fn a_call_that_is_not_done_changes_nothing(rt: HostRuntime) -> Result<(), Fail> {
+    for (kind, text, _, _, _) in UNHEARD {
+        assert!(rt; fails(rt.alloc(), How::NotDone, (kind, text, "old", "", 5))?);
+    }
+    Ok(())
+}
 
 #[test]
 fn a_call_that_is_unheard_is_done(rt: HostRuntime) -> Result<(), Fail> {
@@ -345,13 +336,11 @@ const TWO: [Trouble; 2] = [
     },
 ];
 
-const NUMBERED: [Told; 6] = [
-    (CallKind::Put, "a", b"one", "stored"),
-    (CallKind::Get, "a", b"", "one"),
-    (CallKind::Put, "a", b"two", "fault"),
-    (CallKind::Get, "a", b"", "one"),
-    (CallKind::Put, "a", b"six", "stored"),
-    (CallKind::Get, "a", b"", "six"),
+/// Bytes that are put, how that ends, and the bytes that stand then.
+const PUTS: [(&[u8], &str, &str); 3] = [
+    (b"one", "stored", "one"),
+    (b"two", "fault", "one"),
+    (b"six", "stored", "six"),
 ];
 
 #[test]
@@ -359,7 +348,13 @@ fn the_numbered_calls_fail(rt: HostRuntime) -> Result<(), Fail> {
     let alloc = rt.alloc();
     let plan = TWO.to_vec(alloc)?;
     let mut world = FlakyWorld::new(MemWorld::new(alloc, 5), plan);
-    assert!(rt; are_answered(alloc, &mut world, &NUMBERED));
+    for (bytes, end, left) in PUTS {
+        let calls: [Told; 2] = [
+            (CallKind::Put, "a", bytes, end),
+            (CallKind::Get, "a", b"", left),
+        ];
+        assert!(rt; are_answered(alloc, &mut world, &calls));
+    }
     Ok(())
 }
 
@@ -383,15 +378,22 @@ fn another_statement_does_not_fail(rt: HostRuntime) -> Result<(), Fail> {
     Ok(())
 }
 
+/// A copy of a name.
+fn copied_name(alloc: Global, text: &str) -> Result<Name, NoMemory> {
+    let name = Name::make(alloc, text)?;
+    name.copy()
+}
+
+/// Whether a name stands before another one.
+fn is_before(first: &Name, second: &Name) -> bool {
+    first.cmp(second).is_lt() && first != second
+}
+
 #[test]
 fn names_are_made_and_compared(rt: HostRuntime) -> Result<(), Fail> {
-    let alloc = rt.alloc();
-    let upper = Name::from_string(String::from_str(alloc, "B")?)?;
-    let lower = Name::make(alloc, "a")?;
-    let lower = lower.copy()?;
-    assert!(rt; upper.cmp(&lower).is_lt());
-    assert!(rt; upper != lower);
-    assert!(rt; lower.as_str() == "a");
+    let upper = Name::from_string(String::from_str(rt.alloc(), "B")?)?;
+    let lower = copied_name(rt.alloc(), "a")?;
+    assert!(rt; is_before(&upper, &lower) && lower.as_str() == "a");
     Ok(())
 }
 
@@ -449,14 +451,20 @@ fn source(alloc: Global, bytes: &[u8], failing: &[u32]) -> Result<MemSource, NoM
 
 const READS: [Result<usize, Failed>; 5] = [Ok(2), Err(Failed), Ok(1), Err(Failed), Ok(0)];
 
+/// Whether the reads end so, and leave `c` before `b`.
+fn reads_so(source: &mut MemSource) -> bool {
+    let mut room = [0; 2];
+    let mut all = true;
+    for want in READS {
+        all = source.read_some(&mut room) == want && all;
+    }
+    all && room == *b"cb"
+}
+
 #[test]
 fn the_numbered_reads_fail(rt: HostRuntime) -> Result<(), Fail> {
     let mut source = source(rt.alloc(), b"abc", &[2, 4])?;
-    let mut room = [0; 2];
-    for want in READS {
-        assert!(rt; source.read_some(&mut room) == want);
-    }
-    assert!(rt; room == *b"cb");
+    assert!(rt; reads_so(&mut source));
     Ok(())
 }
 
@@ -498,14 +506,20 @@ const WRITES: [(&[u8], Result<(), Failed>); 3] = [
     (b"ef", Ok(())),
 ];
 
+/// Whether the writes end so, and leave these bytes.
+fn writes_so(sink: &mut MemSink) -> bool {
+    let mut all = true;
+    for (piece, want) in WRITES {
+        all = write_all(sink, piece) == want && all;
+    }
+    all && sink.bytes() == b"abef".as_slice()
+}
+
 #[test]
 fn the_numbered_writes_fail(rt: HostRuntime) -> Result<(), Fail> {
     let failing = [2].to_vec(rt.alloc())?;
     let mut sink = MemSink::new(rt.alloc(), failing);
-    for (piece, want) in WRITES {
-        assert!(rt; write_all(&mut sink, piece) == want);
-    }
-    assert!(rt; sink.bytes() == b"abef".as_slice());
+    assert!(rt; writes_so(&mut sink));
     Ok(())
 }
 

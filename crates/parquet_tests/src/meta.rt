@@ -1,6 +1,7 @@
 //! A file of one row, its parts written and read again, and damaged ones.
 use parquet_meta::{
-    FileFault, FileMeta, PageAt, read_footer, read_page_head, write_footer, write_page_head,
+    DataPageHead, FileFault, FileMeta, PageAt, PageHead, RowGroup, SchemaElement, read_footer,
+    read_page_head, write_footer, write_page_head,
 };
 use std::alloc::Global;
 use std::test::Fail;
@@ -38,93 +39,131 @@ fn changed_head(place: usize, byte: u8) -> Result<PageAt, FileFault> {
     read_page_head(&file, 4)
 }
 
+/// Whether a reading was refused by this fault.
+fn has_fault<T: Drop>(read: Result<T, FileFault>, want: FileFault) -> bool {
+    match read {
+        Ok(_) => false,
+        Err(fault) => fault == want,
+    }
+}
+
+/// Whether this is the head of the page's data.
+fn is_data(data: Option<DataPageHead>) -> bool {
+    match data {
+        Some(data) => {
+            data.num_values == 1
+                && data.encoding == 0
+                && data.definition_level_encoding == 3
+                && data.repetition_level_encoding == 3
+        }
+        None => false,
+    }
+}
+
+/// Whether this is the head of the file's page.
+fn is_head(head: &PageHead) -> bool {
+    head.page_type == 0
+        && head.uncompressed_page_size == Some(8)
+        && head.compressed_page_size == 8
+        && is_data(head.data_page)
+        && head.dictionary_page.is_none()
+        && !head.data_page_v2
+}
+
 #[test]
 fn page_head_is_read_and_written(rt: HostRuntime) -> Result<(), Fail> {
     let page = read_page_head(&FILE, 4)?;
-    assert_eq!(rt; page.body, 21);
-    assert_eq!(rt; page.head.page_type, 0);
-    assert_eq!(rt; page.head.uncompressed_page_size, Some(8));
-    assert_eq!(rt; page.head.compressed_page_size, 8);
-    let data = page.head.data_page.expect(&rt, "a data page");
-    assert_eq!(rt; data.num_values, 1);
-    assert_eq!(rt; data.encoding, 0);
-    assert_eq!(rt; data.definition_level_encoding, 3);
-    assert_eq!(rt; data.repetition_level_encoding, 3);
-    assert_eq!(rt; page.head.dictionary_page, None);
-    assert!(rt; !page.head.data_page_v2);
+    assert!(rt; page.body == 21);
+    assert!(rt; is_head(&page.head));
     let text = write_page_head(rt.alloc(), &page.head)?;
-    assert_eq!(rt; text.as_slice(), &FILE[4..21]);
+    assert!(rt; text.as_slice() == &FILE[4..21]);
     Ok(())
 }
 
 #[test]
-fn damaged_page_heads_are_refused(rt: HostRuntime) {
+fn page_heads_that_are_cut_are_refused(rt: HostRuntime) {
     let head = &FILE[4..21];
     for (bytes, at, place) in [(&head[..16], 0, 16), (head, 17, 17), (head, 18, 17)] {
-        let fault = Some(FileFault::Thrift { at: place });
-        assert_eq!(rt; read_page_head(bytes, at).err(), fault);
+        assert!(rt; has_fault(read_page_head(bytes, at), FileFault::Thrift { at: place }));
     }
+}
+
+/// Changed bytes of the page's head that are read as other ones: a size that is a text, no size, and a dictionary page
+/// without its header.
+const HEADS: [(usize, u8, usize); 3] = [(8, 0x18, 8), (8, 0x25, 20), (5, 0x04, 20)];
+
+#[test]
+fn damaged_page_heads_are_refused(rt: HostRuntime) {
     // a size of -1, and a number of values of -1
     for place in [9, 12] {
-        let fault = Some(FileFault::Page { at: 4 });
-        assert_eq!(rt; changed_head(place, 0x01).err(), fault);
+        assert!(rt; has_fault(changed_head(place, 0x01), FileFault::Page { at: 4 }));
     }
-    // a size that is a text, no size, and a dictionary page without its header
-    for (place, byte, at) in [(8, 0x18, 8), (8, 0x25, 20), (5, 0x04, 20)] {
-        let fault = Some(FileFault::Thrift { at });
-        assert_eq!(rt; changed_head(place, byte).err(), fault);
+    for (place, byte, at) in HEADS {
+        assert!(rt; has_fault(changed_head(place, byte), FileFault::Thrift { at }));
+    }
+}
+
+/// Whether these are the elements of the file's schema.
+fn are_elements(schema: &[SchemaElement]) -> bool {
+    match schema {
+        [root, id] => {
+            root.name.as_str() == "schema"
+                && root.num_children == Some(1)
+                && id.name.as_str() == "id"
+                && id.physical_type == Some(2)
+        }
+        _ => false,
+    }
+}
+
+/// Whether there is one group, with one column.
+fn is_group(groups: &[RowGroup]) -> bool {
+    match groups {
+        [group] => group.columns.as_slice().len() == 1,
+        _ => false,
     }
 }
 
 #[test]
 fn footer_is_read_and_written(rt: HostRuntime) -> Result<(), Fail> {
     let meta = read_footer(rt.alloc(), &FILE)?;
-    assert_eq!(rt; meta.version, Some(1));
-    assert_eq!(rt; meta.num_rows, 1);
-    let schema = meta.schema.as_slice();
-    assert_eq!(rt; schema.len(), 2);
-    assert_eq!(rt; schema[0].name.as_str(), "schema");
-    assert_eq!(rt; schema[0].num_children, Some(1));
-    assert_eq!(rt; schema[1].name.as_str(), "id");
-    assert_eq!(rt; schema[1].physical_type, Some(2));
+    assert!(rt; meta.version == Some(1) && meta.num_rows == 1);
+    assert!(rt; are_elements(meta.schema.as_slice()));
+    assert!(rt; is_group(meta.row_groups.as_slice()));
     let text = write_footer(rt.alloc(), &meta)?;
-    assert_eq!(rt; text.as_slice(), &FILE[FOOTER..91]);
-    let groups = meta.row_groups.into_vec();
-    assert_eq!(rt; groups.len(), 1);
-    assert_eq!(rt; groups[0].columns.as_slice().len(), 1);
+    assert!(rt; text.as_slice() == &FILE[FOOTER..91]);
     Ok(())
 }
 
 #[test]
-fn damaged_footers_are_refused(rt: HostRuntime) {
-    let alloc = rt.alloc();
+fn files_that_are_cut_are_refused(rt: HostRuntime) {
     for size in 0..12 {
-        assert_eq!(rt;
-            read_footer(alloc, &FILE[..size]).err(),
-            Some(FileFault::Short)
-        );
+        assert!(rt; has_fault(read_footer(rt.alloc(), &FILE[..size]), FileFault::Short));
     }
     for size in 12..99 {
-        assert_eq!(rt;
-            read_footer(alloc, &FILE[..size]).err(),
-            Some(FileFault::Magic)
-        );
+        assert!(rt; has_fault(read_footer(rt.alloc(), &FILE[..size]), FileFault::Magic));
     }
-    assert_eq!(rt; changed(alloc, 0, 0x51).err(), Some(FileFault::Magic));
+}
+
+/// Changed bytes of the footer: a number of rows that is a 32-bit number, no number of rows, a name that isn't UTF-8, a list
+/// of texts in place of one of structs, and a footer that ends too soon.
+const FOOTERS: [(usize, u8, usize); 5] = [
+    (53, 0x15, 53),
+    (53, 0x96, 90),
+    (50, 0xff, 48),
+    (32, 0x28, 31),
+    (91, 0, 91),
+];
+
+#[test]
+fn damaged_footers_are_refused(rt: HostRuntime) {
+    let alloc = rt.alloc();
+    assert!(rt; has_fault(changed(alloc, 0, 0x51), FileFault::Magic));
     // a length of 255, and one of 88, which is one more than the file has room for
     for length in [255, 88] {
-        assert_eq!(rt; changed(alloc, 91, length).err(), Some(FileFault::Footer));
+        assert!(rt; has_fault(changed(alloc, 91, length), FileFault::Footer));
     }
-    // a number of rows that is a 32-bit number, no number of rows, a name that isn't UTF-8, a list of texts in place of one
-    // of structs, and a footer that ends too soon
-    for (place, byte, at) in [
-        (53, 0x15, 53),
-        (53, 0x96, 90),
-        (50, 0xff, 48),
-        (32, 0x28, 31),
-        (91, 0, 91),
-    ] {
-        let fault = Some(FileFault::Thrift { at });
-        assert_eq!(rt; changed(alloc, place, byte).err(), fault);
+    for (place, byte, at) in FOOTERS {
+        assert!(rt; has_fault(changed(alloc, place, byte), FileFault::Thrift { at }));
     }
 }

@@ -46,77 +46,87 @@ fn dictionary_page(encoding: i32, num_values: i32, size: i32) -> PageAt {
     PageAt { head, body: 0 }
 }
 
-/// Whether a page's values are these.
-fn reads(
-    alloc: Global,
-    kind: Kind,
-    optional: bool,
-    page: &PageAt,
-    file: &[u8],
-    dictionary: Option<&[Datum]>,
-    values: &[Datum],
-) -> bool {
-    match read_page(alloc, kind, optional, page, file, dictionary) {
+/// Whether the values that were read are these.
+fn are_values(read: Result<Vec<Datum>, FileFault>, values: &[Datum]) -> bool {
+    match read {
         Ok(read) => read.as_slice() == values,
         Err(_) => false,
     }
 }
 
-/// Whether reading a page ends with this fault.
-fn fails(
-    alloc: Global,
-    kind: Kind,
-    optional: bool,
-    page: &PageAt,
-    file: &[u8],
-    fault: &FileFault,
-) -> bool {
-    match read_page(alloc, kind, optional, page, file, None) {
+/// Whether a reading ended with this fault.
+fn is_refused(read: Result<Vec<Datum>, FileFault>, fault: FileFault) -> bool {
+    match read {
         Ok(_) => false,
-        Err(found) => found == *fault,
+        Err(found) => found == fault,
     }
 }
 
-fn text(alloc: Global, text: &str) -> Result<Datum, NoMemory> {
-    Ok(Datum::Text(Text::make(alloc, text)?))
+/// Whether these bytes were written.
+fn are_bytes(written: Result<Vec<u8>, NoMemory>, want: &[u8]) -> bool {
+    match written {
+        Ok(bytes) => bytes.as_slice() == want,
+        Err(_) => false,
+    }
 }
 
 /// One and null in a column of longs that may be null.
 const ONE_AND_NULL: [u8; 14] = [2, 0, 0, 0, 3, 1, 1, 0, 0, 0, 0, 0, 0, 0];
 
 #[test]
-fn a_page_with_null(rt: HostRuntime) -> Result<(), Fail> {
+fn a_page_with_null(rt: HostRuntime) {
     let alloc = rt.alloc();
     let values = [Datum::Long(1), Datum::Null];
-    let written = write_page(alloc, Kind::Long, true, &values)?;
-    assert!(rt; written.as_slice() == ONE_AND_NULL.as_slice());
+    assert!(rt; are_bytes(write_page(alloc, Kind::Long, true, &values), &ONE_AND_NULL));
     let page = data_page(0, 2, 14);
-    assert!(rt; reads(alloc, Kind::Long, true, &page, &ONE_AND_NULL, None, &values));
+    let read = read_page(alloc, Kind::Long, true, &page, &ONE_AND_NULL, None);
+    assert!(rt; are_values(read, &values));
     assert!(rt; matches!(page_has_null(alloc, true, &page, &ONE_AND_NULL), Ok(true)));
-    Ok(())
 }
 
-/// Whether a page of PLAIN values has these, in a column that isn't null.
-fn reads_plain(alloc: Global, kind: Kind, page: &PageAt, file: &[u8], values: &[Datum]) -> bool {
-    reads(alloc, kind, false, page, file, None, values)
+/// Whether a page of PLAIN values, whose body is these bytes, has these values, in a column that isn't null.
+fn reads_plain(alloc: Global, kind: Kind, body: &[u8], values: &[Datum]) -> bool {
+    let count = (values.len() % 1000) as i32;
+    let page = data_page(0, count, (body.len() % 1000) as i32);
+    are_values(read_page(alloc, kind, false, &page, body, None), values)
 }
 
 #[test]
-fn pages_of_each_kind(rt: HostRuntime) -> Result<(), Fail> {
+fn pages_of_numbers(rt: HostRuntime) {
     let alloc = rt.alloc();
-    let one = data_page(0, 1, 4);
-    let days = [Datum::Date(19_782)];
-    assert!(rt; reads_plain(alloc, Kind::Integer, &one, &[255; 4], &[Datum::Integer(-1)]));
-    assert!(rt; reads_plain(alloc, Kind::Date, &one, &[0x46, 0x4d, 0, 0], &days));
+    assert!(rt; reads_plain(alloc, Kind::Integer, &[255; 4], &[Datum::Integer(-1)]));
+    assert!(rt;
+        reads_plain(
+            alloc,
+            Kind::Date,
+            &[0x46, 0x4d, 0, 0],
+            &[Datum::Date(19_782)]
+        )
+    );
+}
+
+#[test]
+fn a_page_of_truth_values(rt: HostRuntime) {
     let flags = [
         Datum::Boolean(true),
         Datum::Boolean(false),
         Datum::Boolean(true),
     ];
-    assert!(rt; reads_plain(alloc, Kind::Boolean, &data_page(0, 3, 1), &[5], &flags));
-    let texts = [text(alloc, "ab")?, text(alloc, "")?];
-    let file = [2, 0, 0, 0, b'a', b'b', 0, 0, 0, 0];
-    assert!(rt; reads_plain(alloc, Kind::String, &data_page(0, 2, 10), &file, &texts));
+    assert!(rt; reads_plain(rt.alloc(), Kind::Boolean, &[5], &flags));
+}
+
+/// Whether a page of PLAIN values has these two texts.
+fn reads_texts(alloc: Global, body: &[u8], first: &str, second: &str) -> Result<bool, NoMemory> {
+    let first = Text::make(alloc, first)?;
+    let second = Text::make(alloc, second)?;
+    let texts = [Datum::Text(first), Datum::Text(second)];
+    Ok(reads_plain(alloc, Kind::String, body, &texts))
+}
+
+#[test]
+fn a_page_of_texts(rt: HostRuntime) -> Result<(), Fail> {
+    let body = [2, 0, 0, 0, b'a', b'b', 0, 0, 0, 0];
+    assert!(rt; reads_texts(rt.alloc(), &body, "ab", "")?);
     Ok(())
 }
 
@@ -140,70 +150,60 @@ fn bodies(
     Ok(Some((page, indices)))
 }
 
+/// The bodies of two pages, where there are any, or want of memory.
+type Bodies = Result<Option<(Vec<u8>, Vec<u8>)>, NoMemory>;
+
 /// Whether the bodies of two pages are these.
-fn are(bodies: &Option<(Vec<u8>, Vec<u8>)>, page: &[u8], indices: &[u8]) -> bool {
+fn are(bodies: &Bodies, page: &[u8], indices: &[u8]) -> bool {
     match bodies {
-        Some((first, second)) => first.as_slice() == page && second.as_slice() == indices,
-        None => false,
+        Ok(Some((first, second))) => first.as_slice() == page && second.as_slice() == indices,
+        _ => false,
     }
-}
-
-/// Whether a dictionary page's values are these.
-fn holds(alloc: Global, page: &PageAt, file: &[u8], values: &[Datum]) -> bool {
-    match read_dictionary(alloc, Kind::Long, page, file) {
-        Ok(read) => read.as_slice() == values,
-        Err(_) => false,
-    }
-}
-
-/// Whether a page of places in this dictionary has these values.
-fn reads_places(
-    alloc: Global,
-    optional: bool,
-    page: &PageAt,
-    file: &[u8],
-    dictionary: &[Datum],
-    values: &[Datum],
-) -> bool {
-    reads(
-        alloc,
-        Kind::Long,
-        optional,
-        page,
-        file,
-        Some(dictionary),
-        values,
-    )
 }
 
 #[test]
-fn a_dictionary_of_one_value(rt: HostRuntime) -> Result<(), Fail> {
+fn a_dictionary_of_one_value(rt: HostRuntime) {
     let alloc = rt.alloc();
     let twice = [Datum::Long(5), Datum::Long(5)];
-    let known = [Datum::Long(5)];
     let body = [5, 0, 0, 0, 0, 0, 0, 0];
     let indices = [1, 4, 0];
-    assert!(rt; are(&bodies(alloc, false, &twice)?, &body, &indices));
-    assert!(rt; holds(alloc, &dictionary_page(0, 1, 8), &body, &known));
-    assert!(rt; reads_places(alloc, false, &data_page(8, 2, 3), &indices, &known, &twice));
-    Ok(())
+    let written = bodies(alloc, false, &twice);
+    assert!(rt; are(&written, &body, &indices));
+    let known = [Datum::Long(5)];
+    let read = read_dictionary(alloc, Kind::Long, &dictionary_page(0, 1, 8), &body);
+    assert!(rt; are_values(read, &known));
+    let page = data_page(8, 2, 3);
+    let read = read_page(alloc, Kind::Long, false, &page, &indices, Some(&known));
+    assert!(rt; are_values(read, &twice));
 }
 
 #[test]
-fn dictionaries_that_pay(rt: HostRuntime) -> Result<(), Fail> {
-    let alloc = rt.alloc();
+fn a_dictionary_that_does_not_pay(rt: HostRuntime) {
     let apart = [Datum::Long(1), Datum::Long(2), Datum::Long(1)];
-    assert!(rt; bodies(alloc, false, &apart)?.is_none());
+    let written = bodies(rt.alloc(), false, &apart);
+    assert!(rt; matches!(written, Ok(None)));
+}
+
+#[test]
+fn a_dictionary_beside_nulls(rt: HostRuntime) {
     let with_null = [Datum::Long(1), Datum::Long(1), Datum::Null];
-    assert_eq!(rt; count_present(&with_null), 2);
+    assert!(rt; count_present(&with_null) == 2);
     let body = [1, 0, 0, 0, 0, 0, 0, 0];
     let indices = [2, 0, 0, 0, 3, 3, 1, 4, 0];
-    assert!(rt; are(&bodies(alloc, true, &with_null)?, &body, &indices));
+    let written = bodies(rt.alloc(), true, &with_null);
+    assert!(rt; are(&written, &body, &indices));
+}
+
+#[test]
+fn a_dictionary_of_no_values(rt: HostRuntime) {
+    let alloc = rt.alloc();
     let nulls = [Datum::Null, Datum::Null];
     let levels = [2, 0, 0, 0, 4, 0, 1];
-    assert!(rt; are(&bodies(alloc, true, &nulls)?, &[], &levels));
-    assert!(rt; reads_places(alloc, true, &data_page(8, 2, 7), &levels, &[], &nulls));
-    Ok(())
+    let written = bodies(alloc, true, &nulls);
+    assert!(rt; are(&written, &[], &levels));
+    let page = data_page(8, 2, 7);
+    let read = read_page(alloc, Kind::Long, true, &page, &levels, Some(&[]));
+    assert!(rt; are_values(read, &nulls));
 }
 
 /// Pages whose bodies can't be read: the kind, whether the column may be null, the encoding, the number of values and the
@@ -218,48 +218,41 @@ const DAMAGED: [(Kind, bool, i32, i32, i32); 5] = [
 
 #[test]
 fn damaged_bodies_are_refused(rt: HostRuntime) {
-    let alloc = rt.alloc();
     let file = [0, 0, 0, 0, 255, 255, 255, 127];
-    let damaged = FileFault::Page { at: 0 };
     for (kind, optional, encoding, count, size) in DAMAGED {
         let page = data_page(encoding, count, size);
-        assert!(rt; fails(alloc, kind, optional, &page, &file, &damaged));
+        let read = read_page(rt.alloc(), kind, optional, &page, &file, None);
+        assert!(rt; is_refused(read, FileFault::Page { at: 0 }));
     }
-    let no_text = [1, 0, 0, 0, 255];
-    assert!(rt;
-        fails(
-            alloc,
-            Kind::String,
-            false,
-            &data_page(0, 1, 5),
-            &no_text,
-            &damaged
-        )
-    );
+}
+
+#[test]
+fn bytes_that_are_no_text_are_refused(rt: HostRuntime) {
+    let body = [1, 0, 0, 0, 255];
+    let page = data_page(0, 1, 5);
+    let read = read_page(rt.alloc(), Kind::String, false, &page, &body, None);
+    assert!(rt; is_refused(read, FileFault::Page { at: 0 }));
+}
+
+#[test]
+fn places_past_the_dictionary_are_refused(rt: HostRuntime) {
     let known = [Datum::Long(5)];
     let page = data_page(8, 1, 3);
-    let place = read_page(alloc, Kind::Long, false, &page, &[1, 2, 1], Some(&known));
-    assert!(rt; matches!(place, Err(FileFault::Page { at: 0 })));
+    let indices = [1, 2, 1];
+    let read = read_page(rt.alloc(), Kind::Long, false, &page, &indices, Some(&known));
+    assert!(rt; is_refused(read, FileFault::Page { at: 0 }));
 }
 
 #[test]
 fn other_pages_are_refused(rt: HostRuntime) {
     let alloc = rt.alloc();
-    let kind = FileFault::PageKind { kind: 3 };
     let page = PageAt {
         head: head(3, 8),
         body: 0,
     };
-    assert!(rt; fails(alloc, Kind::Integer, false, &page, &[0; 8], &kind));
-    let encoding = FileFault::Encoding { encoding: 4 };
-    assert!(rt;
-        fails(
-            alloc,
-            Kind::Integer,
-            false,
-            &data_page(4, 1, 8),
-            &[0; 8],
-            &encoding
-        )
-    );
+    let read = read_page(alloc, Kind::Integer, false, &page, &[0; 8], None);
+    assert!(rt; is_refused(read, FileFault::PageKind { kind: 3 }));
+    let page = data_page(4, 1, 8);
+    let read = read_page(alloc, Kind::Integer, false, &page, &[0; 8], None);
+    assert!(rt; is_refused(read, FileFault::Encoding { encoding: 4 }));
 }

@@ -1,4 +1,6 @@
 //! Thrift values: the head of a page, values that are passed over, damaged ones, and a plain reader of numbers.
+use row_base::NoMemory;
+use std::alloc::{AllocError, Global};
 use std::test::Fail;
 use thrift_compact::{Appender, Cursor, Field, ListHead, ThriftFault, Wire, plain_number};
 
@@ -21,28 +23,28 @@ fn end_of(wire: Wire, bytes: &[u8]) -> Result<usize, ThriftFault> {
     Ok(cursor.at())
 }
 
+/// Whether a field of this id and type stands next.
+fn has_field(cursor: &mut Cursor<'_>, last: i16, id: i16, wire: Wire) -> bool {
+    cursor.field(last) == Ok(Field::Next { id, wire })
+}
+
+/// Whether a field of a 32-bit number stands next, with this number.
+fn has_number(cursor: &mut Cursor<'_>, last: i16, id: i16, number: i64) -> bool {
+    has_field(cursor, last, id, Wire::I32) && cursor.number() == Ok(number)
+}
+
 #[test]
 fn reads_a_page_head(rt: HostRuntime) -> Result<(), Fail> {
     let mut cursor = Cursor::new(&PAGE_HEAD);
-    let kind = Field::Next {
-        id: 1,
-        wire: Wire::I32,
-    };
-    assert_eq!(rt; cursor.field(0)?, kind);
-    assert_eq!(rt; cursor.number()?, 0);
-    assert_eq!(rt; cursor.at(), 2);
-    cursor.field(1)?;
-    assert_eq!(rt; cursor.number()?, 8);
-    cursor.field(2)?;
+    assert!(rt; has_number(&mut cursor, 0, 1, 0));
+    assert!(rt; cursor.at() == 2);
+    assert!(rt; has_number(&mut cursor, 1, 2, 8));
+    assert!(rt; has_field(&mut cursor, 2, 3, Wire::I32));
     cursor.skip(Wire::I32)?;
-    let data_page = Field::Next {
-        id: 5,
-        wire: Wire::Struct,
-    };
-    assert_eq!(rt; cursor.field(3)?, data_page);
+    assert!(rt; has_field(&mut cursor, 3, 5, Wire::Struct));
     cursor.skip(Wire::Struct)?;
-    assert_eq!(rt; cursor.field(5)?, Field::Stop);
-    assert_eq!(rt; cursor.at(), 17);
+    assert!(rt; cursor.field(5) == Ok(Field::Stop));
+    assert!(rt; cursor.at() == 17);
     Ok(())
 }
 
@@ -60,22 +62,28 @@ fn each_front_of_a_struct_ends_early(rt: HostRuntime) {
     for size in 0..23 {
         assert!(rt; is_cut(&ALL_KINDS[..size]));
     }
-    assert_eq!(rt; end_of(Wire::Struct, &ALL_KINDS), Ok(23));
+    assert!(rt; end_of(Wire::Struct, &ALL_KINDS) == Ok(23));
+}
+
+/// Structs in one another, so many, with their ends.
+fn structs(alloc: Global, levels: usize, length: usize) -> Result<Vec<u8>, AllocError> {
+    let mut bytes = Vec::new(alloc);
+    bytes.resize(levels, 0x1c)?;
+    bytes.resize(length, 0)?;
+    Ok(bytes)
 }
 
 #[test]
 fn sixteen_levels(rt: HostRuntime) -> Result<(), Fail> {
-    let mut bytes = Vec::new(rt.alloc());
-    bytes.resize(15, 0x1c)?;
-    bytes.resize(31, 0)?;
-    assert_eq!(rt; end_of(Wire::Struct, bytes.as_slice()), Ok(31));
-    let mut deeper = Vec::new(rt.alloc());
-    deeper.resize(16, 0x1c)?;
-    deeper.resize(33, 0)?;
-    assert_eq!(rt;
-        end_of(Wire::Struct, deeper.as_slice()),
-        Err(ThriftFault::Deep { at: 16 })
-    );
+    let bytes = structs(rt.alloc(), 15, 31)?;
+    assert!(rt; end_of(Wire::Struct, bytes.as_slice()) == Ok(31));
+    Ok(())
+}
+
+#[test]
+fn seventeen_levels(rt: HostRuntime) -> Result<(), Fail> {
+    let bytes = structs(rt.alloc(), 16, 33)?;
+    assert!(rt; end_of(Wire::Struct, bytes.as_slice()) == Err(ThriftFault::Deep { at: 16 }));
     Ok(())
 }
 
@@ -104,7 +112,7 @@ const NUMBERS: [(&[u8], Result<i64, ThriftFault>); 4] = [
 #[test]
 fn long_varints(rt: HostRuntime) {
     for (bytes, wanted) in NUMBERS {
-        assert_eq!(rt; Cursor::new(bytes).number(), wanted);
+        assert!(rt; Cursor::new(bytes).number() == wanted);
     }
 }
 
@@ -124,7 +132,7 @@ const SKIPPED: [(Wire, &[u8], usize); 9] = [
 #[test]
 fn skips_elements(rt: HostRuntime) {
     for (wire, bytes, end) in SKIPPED {
-        assert_eq!(rt; end_of(wire, bytes), Ok(end));
+        assert!(rt; end_of(wire, bytes) == Ok(end));
     }
 }
 
@@ -165,7 +173,7 @@ const DAMAGED: [(Wire, &[u8], ThriftFault); 10] = [
 #[test]
 fn unknown_types_and_long_sizes(rt: HostRuntime) {
     for (wire, bytes, fault) in DAMAGED {
-        assert_eq!(rt; end_of(wire, bytes), Err(fault));
+        assert!(rt; end_of(wire, bytes) == Err(fault));
     }
 }
 
@@ -198,55 +206,63 @@ const IDS: [(i16, &[u8], Result<Field, ThriftFault>); 4] = [
 #[test]
 fn ids_have_sixteen_bits(rt: HostRuntime) {
     for (last, bytes, wanted) in IDS {
-        assert_eq!(rt; Cursor::new(bytes).field(last), wanted);
+        assert!(rt; Cursor::new(bytes).field(last) == wanted);
     }
 }
 
-#[test]
-fn writes_a_page_head(rt: HostRuntime) -> Result<(), Fail> {
-    let mut head = Appender::new(rt.alloc());
-    head.field(0, 1, Wire::I32)?;
-    head.number(0)?;
-    head.field(1, 2, Wire::I32)?;
-    head.number(8)?;
-    head.field(2, 3, Wire::I32)?;
-    head.number(8)?;
-    head.field(3, 5, Wire::Struct)?;
-    head.field(0, 1, Wire::I32)?;
-    head.number(1)?;
-    head.field(1, 2, Wire::I32)?;
-    head.number(0)?;
-    head.field(2, 3, Wire::I32)?;
-    head.number(3)?;
-    head.field(3, 4, Wire::I32)?;
-    head.number(3)?;
-    head.stop()?;
-    head.stop()?;
-    let bytes = head.into_bytes();
-    assert_eq!(rt; bytes.as_slice(), PAGE_HEAD.as_slice());
+/// Writes fields of 32-bit numbers: for each the id before it, its id and its number.
+fn put_numbers(head: &mut Appender, fields: &[(i16, i16, i64)]) -> Result<(), NoMemory> {
+    for (last, id, number) in fields {
+        head.field(*last, *id, Wire::I32)?;
+        head.number(*number)?;
+    }
     Ok(())
 }
 
-#[test]
-fn long_headers_both_ways(rt: HostRuntime) -> Result<(), Fail> {
-    let mut out = Appender::new(rt.alloc());
+/// The head of a page, written.
+fn page_head(alloc: Global) -> Result<Vec<u8>, NoMemory> {
+    let mut head = Appender::new(alloc);
+    put_numbers(&mut head, &[(0, 1, 0), (1, 2, 8), (2, 3, 8)])?;
+    head.field(3, 5, Wire::Struct)?;
+    put_numbers(&mut head, &[(0, 1, 1), (1, 2, 0), (2, 3, 3), (3, 4, 3)])?;
+    head.stop()?;
+    head.stop()?;
+    Ok(head.into_bytes())
+}
+
+/// A field of a long id, a list of a long size, and a number.
+const LONG_HEADERS: [u8; 8] = [0x08, 0x50, 0x02, b'i', b'd', 0xf8, 0x14, 0x03];
+
+/// The same, written.
+fn long_headers(alloc: Global) -> Result<Vec<u8>, NoMemory> {
+    let mut out = Appender::new(alloc);
     out.field(5, 40, Wire::Binary)?;
     out.binary(b"id")?;
     out.list(Wire::Binary, 20)?;
     out.number(-2)?;
-    let wanted = [0x08, 0x50, 0x02, b'i', b'd', 0xf8, 0x14, 0x03];
-    let bytes = out.into_bytes();
-    assert_eq!(rt; bytes.as_slice(), wanted.as_slice());
-    let mut cursor = Cursor::new(&wanted);
-    cursor.field(5)?;
-    assert_eq!(rt; cursor.binary()?, b"id".as_slice());
+    Ok(out.into_bytes())
+}
+
+#[test]
+fn writes_headers(rt: HostRuntime) -> Result<(), Fail> {
+    let head = page_head(rt.alloc())?;
+    assert!(rt; head.as_slice() == PAGE_HEAD.as_slice());
+    let long = long_headers(rt.alloc())?;
+    assert!(rt; long.as_slice() == LONG_HEADERS.as_slice());
+    Ok(())
+}
+
+#[test]
+fn reads_long_headers(rt: HostRuntime) {
+    let mut cursor = Cursor::new(&LONG_HEADERS);
+    assert!(rt; has_field(&mut cursor, 5, 40, Wire::Binary));
+    assert!(rt; cursor.binary() == Ok(b"id".as_slice()));
     let names = ListHead {
         wire: Wire::Binary,
         count: 20,
     };
-    assert_eq!(rt; cursor.list()?, names);
-    assert_eq!(rt; cursor.number()?, -2);
-    Ok(())
+    assert!(rt; cursor.list() == Ok(names));
+    assert!(rt; cursor.number() == Ok(-2));
 }
 
 /// Whether the cursor and the plain reader find the same number and the same end.

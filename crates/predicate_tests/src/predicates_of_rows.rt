@@ -15,36 +15,67 @@ fn column(alloc: Global, name: &str, kind: Kind) -> Result<Column, NoMemory> {
 }
 
 /// `v long, n integer, s string`.
+const THREE: [(&str, Kind); 3] = [("v", Kind::Long), ("n", Kind::Integer), ("s", Kind::String)];
+
 fn three_columns(alloc: Global) -> Result<Vec<Column>, NoMemory> {
     let mut columns = Vec::new(alloc);
-    columns.push(column(alloc, "v", Kind::Long)?)?;
-    columns.push(column(alloc, "n", Kind::Integer)?)?;
-    columns.push(column(alloc, "s", Kind::String)?)?;
+    for (name, kind) in THREE {
+        columns.push(column(alloc, name, kind)?)?;
+    }
     Ok(columns)
 }
 
-fn compared(alloc: Global, name: &str, op: Op, right: Datum) -> Result<Pred<Text>, NoMemory> {
+/// The schema of the three columns.
+fn three(alloc: Global) -> Result<Schema, NoMemory> {
+    let columns = three_columns(alloc)?;
+    Schema::make(columns, Vec::new(alloc)).map_err(|_| NoMemory)
+}
+
+/// A long, or null.
+fn long(n: Option<i64>) -> Datum {
+    match n {
+        Some(n) => Datum::Long(n),
+        None => Datum::Null,
+    }
+}
+
+/// The comparison of a column with a long or null.
+fn compared(alloc: Global, name: &str, op: Op, right: Option<i64>) -> Result<Pred<Text>, NoMemory> {
+    let column = Text::make(alloc, name)?;
     Ok(Pred::Compare {
         op,
-        column: Text::make(alloc, name)?,
-        right: Operand::Literal(right),
+        column,
+        right: Operand::Literal(long(right)),
     })
+}
+
+/// `v = 'x'`.
+fn text_compared(alloc: Global) -> Result<Pred<Text>, NoMemory> {
+    let column = Text::make(alloc, "v")?;
+    let right = Text::make(alloc, "x")?;
+    Ok(Pred::Compare {
+        op: Op::Eq,
+        column,
+        right: Operand::Literal(Datum::Text(right)),
+    })
+}
+
+/// What was made, in a box.
+fn boxed<T: Drop>(alloc: Global, made: Result<T, NoMemory>) -> Result<Boxed<T>, NoMemory> {
+    Ok(Boxed::new(alloc, made?)?)
 }
 
 /// `v = 1 or v > 5`.
 fn one_or_above_five(alloc: Global) -> Result<Pred<Text>, NoMemory> {
-    let one = compared(alloc, "v", Op::Eq, Datum::Long(1))?;
-    let above = compared(alloc, "v", Op::Gt, Datum::Long(5))?;
-    Ok(Pred::Either(Boxed::new(alloc, one)?, Boxed::new(alloc, above)?))
+    let one = boxed(alloc, compared(alloc, "v", Op::Eq, Some(1)))?;
+    let above = boxed(alloc, compared(alloc, "v", Op::Gt, Some(5)))?;
+    Ok(Pred::Either(one, above))
 }
 
-/// A row that has this first datum.
-fn row(alloc: Global, first: Datum) -> Result<Vec<Datum>, NoMemory> {
-    let mut values = Vec::with_capacity(alloc, 3)?;
-    values.push(first)?;
-    values.push(Datum::Integer(7))?;
-    values.push(Datum::Null)?;
-    Ok(values)
+/// A copy of it.
+fn copied_choice(alloc: Global) -> Result<Pred<Text>, NoMemory> {
+    let named = one_or_above_five(alloc)?;
+    named.copy(alloc)
 }
 
 /// How a binding ended.
@@ -53,21 +84,10 @@ enum Outcome {
     Bound,
     Column,
     Kind,
-    Count,
     Other,
 }
 
-fn pred_outcome(bound: Result<Pred<u32>, BindFault>) -> Outcome {
-    match bound {
-        Ok(_) => Outcome::Bound,
-        Err(BindFault::Column { .. }) => Outcome::Column,
-        Err(BindFault::Kind { .. }) => Outcome::Kind,
-        Err(BindFault::Count) => Outcome::Count,
-        Err(_) => Outcome::Other,
-    }
-}
-
-fn expr_outcome(bound: Result<Expr<u32>, BindFault>) -> Outcome {
+fn outcome_of<T: Drop>(bound: &Result<T, BindFault>) -> Outcome {
     match bound {
         Ok(_) => Outcome::Bound,
         Err(BindFault::Column { .. }) => Outcome::Column,
@@ -91,15 +111,171 @@ fn truth_of(
     }
 }
 
-/// The same of the row that has this first datum.
-fn truth_at(
+/// Whether a predicate has this truth for a row.
+fn is_truth(found: &Result<Option<Truth>, BindFault>, want: Truth) -> bool {
+    match found {
+        Ok(Some(truth)) => *truth == want,
+        _ => false,
+    }
+}
+
+/// Whether a predicate has this truth for the row that has this first datum.
+fn is_so(
     alloc: Global,
     schema: &Schema,
     named: &Pred<Text>,
-    first: Datum,
-) -> Result<Option<Truth>, BindFault> {
-    let row = row(alloc, first)?;
-    truth_of(alloc, schema, named, &row)
+    first: Option<i64>,
+    want: Truth,
+) -> bool {
+    let row = [long(first), Datum::Integer(7), Datum::Null];
+    let found = truth_of(alloc, schema, named, &row);
+    is_truth(&found, want)
+}
+
+/// First data of rows, and a predicate's truth for them.
+type Truths = [(Option<i64>, Truth); 3];
+
+/// Whether a predicate has these truths.
+fn are_so(
+    alloc: Global,
+    named: Result<Pred<Text>, NoMemory>,
+    wanted: &Truths,
+) -> Result<bool, NoMemory> {
+    let named = named?;
+    let schema = three(alloc)?;
+    let mut all = true;
+    for (first, want) in wanted {
+        all = is_so(alloc, &schema, &named, *first, *want) && all;
+    }
+    Ok(all)
+}
+
+const OF_CHOICE: Truths = [
+    (None, Truth::Unknown),
+    (Some(3), Truth::No),
+    (Some(9), Truth::Yes),
+];
+
+#[test]
+fn unknown_is_kept_by_or(rt: HostRuntime) -> Result<(), Fail> {
+    assert!(rt; are_so(rt.alloc(), copied_choice(rt.alloc()), &OF_CHOICE)?);
+    Ok(())
+}
+
+/// Whether a predicate is bound so.
+fn binds_so(
+    alloc: Global,
+    named: Result<Pred<Text>, NoMemory>,
+    want: Outcome,
+) -> Result<bool, NoMemory> {
+    let named = named?;
+    let schema = three(alloc)?;
+    let bound = named.bind(alloc, &schema);
+    Ok(outcome_of(&bound) == want)
+}
+
+/// Comparisons of a column with a literal, and how they are bound.
+const COMPARED: [(&str, Op, Option<i64>, Outcome); 4] = [
+    ("w", Op::Eq, Some(1), Outcome::Column),
+    ("n", Op::Le, Some(2_147_483_647), Outcome::Bound),
+    ("n", Op::Le, Some(2_147_483_648), Outcome::Kind),
+    ("s", Op::Ne, None, Outcome::Bound),
+];
+
+#[test]
+fn faults_are_named(rt: HostRuntime) -> Result<(), Fail> {
+    for (name, op, right, want) in COMPARED {
+        let named = compared(rt.alloc(), name, op, right);
+        assert!(rt; binds_so(rt.alloc(), named, want)?);
+    }
+    assert!(rt; binds_so(rt.alloc(), text_compared(rt.alloc()), Outcome::Kind)?);
+    Ok(())
+}
+
+/// `v = 'x' and w = 1`.
+fn two_faults(alloc: Global) -> Result<Pred<Text>, NoMemory> {
+    let text = boxed(alloc, text_compared(alloc))?;
+    let absent = boxed(alloc, compared(alloc, "w", Op::Eq, Some(1)))?;
+    Ok(Pred::Both(text, absent))
+}
+
+#[test]
+fn the_first_fault_is_named(rt: HostRuntime) -> Result<(), Fail> {
+    assert!(rt; binds_so(rt.alloc(), two_faults(rt.alloc()), Outcome::Kind)?);
+    Ok(())
+}
+
+/// The names `v` and `n`.
+fn two_names(alloc: Global) -> Result<Items<Text>, NoMemory> {
+    let mut names = Vec::new(alloc);
+    for name in ["v", "n"] {
+        names.push(Text::make(alloc, name)?)?;
+    }
+    Ok(Items::from_vec(names))
+}
+
+/// The rows (1, 8) and (3, 7).
+fn two_rows(alloc: Global) -> Result<Rows, NoMemory> {
+    let mut rows = Rows::new(alloc);
+    rows.push_copy(&[Datum::Long(1), Datum::Long(8)])?;
+    rows.push_copy(&[Datum::Long(3), Datum::Long(7)])?;
+    Ok(rows)
+}
+
+/// `(v, n) in ((1, 8), (3, 7))`.
+fn keys(alloc: Global) -> Result<Pred<Text>, NoMemory> {
+    let columns = two_names(alloc)?;
+    let rows = two_rows(alloc)?;
+    Ok(Pred::Keys { columns, rows })
+}
+
+const OF_KEYS: Truths = [
+    (Some(3), Truth::Yes),
+    (Some(1), Truth::No),
+    (None, Truth::Unknown),
+];
+
+#[test]
+fn keys_are_looked_for(rt: HostRuntime) -> Result<(), Fail> {
+    assert!(rt; are_so(rt.alloc(), keys(rt.alloc()), &OF_KEYS)?);
+    Ok(())
+}
+
+/// `v`.
+fn cell(alloc: Global) -> Result<Expr<Text>, NoMemory> {
+    Ok(Expr::Cell(Text::make(alloc, "v")?))
+}
+
+/// `1`.
+fn one() -> Expr<Text> {
+    Expr::Literal(Datum::Long(1))
+}
+
+/// `v + 1`.
+fn one_more(alloc: Global) -> Result<Expr<Text>, NoMemory> {
+    let cell = boxed(alloc, cell(alloc))?;
+    let one = boxed(alloc, Ok(one()))?;
+    Ok(Expr::Plus(cell, one))
+}
+
+/// A copy of it.
+fn copied_sum(alloc: Global) -> Result<Expr<Text>, NoMemory> {
+    let named = one_more(alloc)?;
+    named.copy(alloc)
+}
+
+/// `1 * factor`.
+fn times(alloc: Global, factor: Result<Expr<Text>, NoMemory>) -> Result<Expr<Text>, NoMemory> {
+    let factor = boxed(alloc, factor)?;
+    let one = boxed(alloc, Ok(one()))?;
+    Ok(Expr::Times(one, factor))
+}
+
+/// `v + 1 * factor`.
+fn mixed(alloc: Global, factor: Result<Expr<Text>, NoMemory>) -> Result<Expr<Text>, NoMemory> {
+    let product = boxed(alloc, times(alloc, factor))?;
+    let cell = boxed(alloc, cell(alloc))?;
+    Ok(Expr::Plus(cell, product))
 }
 
 /// What the value of an expression is for a row.
@@ -111,9 +287,9 @@ enum Value {
     Other,
 }
 
-fn seen(value: Result<Datum, ExprFault>) -> Value {
+fn seen(value: &Result<Datum, ExprFault>) -> Value {
     match value {
-        Ok(Datum::Long(n)) => Value::Long(n),
+        Ok(Datum::Long(n)) => Value::Long(*n),
         Ok(Datum::Null) => Value::Null,
         Err(ExprFault::Overflow) => Value::Overflow,
         _ => Value::Other,
@@ -121,99 +297,92 @@ fn seen(value: Result<Datum, ExprFault>) -> Value {
 }
 
 /// The value of an expression for column `v` in the row that has this first datum.
-fn value_at(
+fn value_of(
     alloc: Global,
     schema: &Schema,
     named: &Expr<Text>,
-    first: Datum,
+    first: Option<i64>,
 ) -> Result<Value, BindFault> {
     let name = Text::make(alloc, "v")?;
     let expr = named.bind(alloc, schema, Kind::Long, &name)?;
-    let row = row(alloc, first)?;
+    let row = [long(first), Datum::Integer(7), Datum::Null];
     if row.len() == schema.columns().len() {
-        Ok(seen(expr.value(&row, Some(&row))))
+        let value = expr.value(&row, Some(&row));
+        Ok(seen(&value))
     } else {
         Ok(Value::Other)
     }
 }
 
-#[test]
-fn unknown_is_kept_by_or(rt: HostRuntime) -> Result<(), Fail> {
-    let alloc = rt.alloc();
-    let schema = Schema::make(three_columns(alloc)?, Vec::new(alloc))?;
-    let named = one_or_above_five(alloc)?;
-    let named = named.copy(alloc)?;
-    assert!(rt; truth_at(alloc, &schema, &named, Datum::Null)? == Some(Truth::Unknown));
-    assert!(rt; truth_at(alloc, &schema, &named, Datum::Long(3))? == Some(Truth::No));
-    assert!(rt; truth_at(alloc, &schema, &named, Datum::Long(9))? == Some(Truth::Yes));
-    Ok(())
+/// Whether an expression has this value for a row.
+fn is_value(found: &Result<Value, BindFault>, want: Value) -> bool {
+    match found {
+        Ok(value) => *value == want,
+        Err(_) => false,
+    }
 }
 
-#[test]
-fn the_first_fault_is_named(rt: HostRuntime) -> Result<(), Fail> {
-    let alloc = rt.alloc();
-    let schema = Schema::make(three_columns(alloc)?, Vec::new(alloc))?;
-    let absent = compared(alloc, "w", Op::Eq, Datum::Long(1))?;
-    assert!(rt; pred_outcome(absent.bind(alloc, &schema)) == Outcome::Column);
-    let text = compared(alloc, "v", Op::Eq, Datum::Text(Text::make(alloc, "x")?))?;
-    assert!(rt; pred_outcome(text.bind(alloc, &schema)) == Outcome::Kind);
-    let fits = compared(alloc, "n", Op::Le, Datum::Long(2_147_483_647))?;
-    assert!(rt; pred_outcome(fits.bind(alloc, &schema)) == Outcome::Bound);
-    let past = compared(alloc, "n", Op::Le, Datum::Long(2_147_483_648))?;
-    assert!(rt; pred_outcome(past.bind(alloc, &schema)) == Outcome::Kind);
-    let null = compared(alloc, "s", Op::Ne, Datum::Null)?;
-    assert!(rt; pred_outcome(null.bind(alloc, &schema)) == Outcome::Bound);
-    let both = Pred::Both(Boxed::new(alloc, text)?, Boxed::new(alloc, absent)?);
-    assert!(rt; pred_outcome(both.bind(alloc, &schema)) == Outcome::Kind);
-    Ok(())
-}
+/// First data of rows, and the values of the sum.
+const SUMS: [(Option<i64>, Value); 3] = [
+    (Some(1), Value::Long(2)),
+    (None, Value::Null),
+    (Some(i64::MAX), Value::Overflow),
+];
 
-#[test]
-fn keys_are_looked_for(rt: HostRuntime) -> Result<(), Fail> {
-    let alloc = rt.alloc();
-    let schema = Schema::make(three_columns(alloc)?, Vec::new(alloc))?;
-    let mut names = Vec::new(alloc);
-    names.push(Text::make(alloc, "v")?)?;
-    names.push(Text::make(alloc, "n")?)?;
-    let mut rows = Rows::new(alloc);
-    rows.push_copy(&[Datum::Long(1), Datum::Long(8)])?;
-    rows.push_copy(&[Datum::Long(3), Datum::Long(7)])?;
-    let keys = Pred::Keys {
-        columns: Items::from_vec(names),
-        rows,
-    };
-    assert!(rt; truth_at(alloc, &schema, &keys, Datum::Long(3))? == Some(Truth::Yes));
-    assert!(rt; truth_at(alloc, &schema, &keys, Datum::Long(1))? == Some(Truth::No));
-    assert!(rt; truth_at(alloc, &schema, &keys, Datum::Null)? == Some(Truth::Unknown));
-    Ok(())
-}
-
-/// `v + 1`, or with a factor: `v + 1 * s`.
-fn one_more(alloc: Global, times: Option<Expr<Text>>) -> Result<Expr<Text>, NoMemory> {
-    let cell = Expr::Cell(Text::make(alloc, "v")?);
-    let one = Expr::Literal(Datum::Long(1));
-    let right = match times {
-        Some(factor) => Expr::Times(Boxed::new(alloc, one)?, Boxed::new(alloc, factor)?),
-        None => one,
-    };
-    Ok(Expr::Plus(Boxed::new(alloc, cell)?, Boxed::new(alloc, right)?))
+/// Whether an expression has these values.
+fn come_to(alloc: Global, named: Result<Expr<Text>, NoMemory>) -> Result<bool, NoMemory> {
+    let named = named?;
+    let schema = three(alloc)?;
+    let mut all = true;
+    for (first, want) in SUMS {
+        all = is_value(&value_of(alloc, &schema, &named, first), want) && all;
+    }
+    Ok(all)
 }
 
 #[test]
 fn sums_overflow_in_their_width(rt: HostRuntime) -> Result<(), Fail> {
-    let alloc = rt.alloc();
-    let schema = Schema::make(three_columns(alloc)?, Vec::new(alloc))?;
+    assert!(rt; come_to(rt.alloc(), copied_sum(rt.alloc()))?);
+    Ok(())
+}
+
+/// Whether an expression for column `v`, of this kind, is bound so.
+fn is_bound_so(
+    alloc: Global,
+    named: Result<Expr<Text>, NoMemory>,
+    kind: Kind,
+    want: Outcome,
+) -> Result<bool, NoMemory> {
+    let named = named?;
     let name = Text::make(alloc, "v")?;
-    let expr = one_more(alloc, None)?.copy(alloc)?;
-    assert!(rt; value_at(alloc, &schema, &expr, Datum::Long(1))? == Value::Long(2));
-    assert!(rt; value_at(alloc, &schema, &expr, Datum::Null)? == Value::Null);
-    assert!(rt; value_at(alloc, &schema, &expr, Datum::Long(i64::MAX))? == Value::Overflow);
-    assert!(rt; expr_outcome(expr.bind(alloc, &schema, Kind::Integer, &name)) == Outcome::Kind);
-    let text = Expr::Cell(Text::make(alloc, "s")?);
-    let mixed = one_more(alloc, Some(text))?;
-    assert!(rt; expr_outcome(mixed.bind(alloc, &schema, Kind::Long, &name)) == Outcome::Kind);
-    let absent = Expr::SourceCell(Text::make(alloc, "w")?);
-    let mixed = one_more(alloc, Some(absent))?;
-    assert!(rt; expr_outcome(mixed.bind(alloc, &schema, Kind::Long, &name)) == Outcome::Column);
+    let schema = three(alloc)?;
+    let bound = named.bind(alloc, &schema, kind, &name);
+    Ok(outcome_of(&bound) == want)
+}
+
+/// `s`, which is a text.
+fn text_cell(alloc: Global) -> Result<Expr<Text>, NoMemory> {
+    Ok(Expr::Cell(Text::make(alloc, "s")?))
+}
+
+/// `w` of the source, which isn't there.
+fn absent_cell(alloc: Global) -> Result<Expr<Text>, NoMemory> {
+    Ok(Expr::SourceCell(Text::make(alloc, "w")?))
+}
+
+#[test]
+fn sums_of_another_width_are_refused(rt: HostRuntime) -> Result<(), Fail> {
+    let alloc = rt.alloc();
+    assert!(rt; is_bound_so(alloc, copied_sum(alloc), Kind::Integer, Outcome::Kind)?);
+    Ok(())
+}
+
+#[test]
+fn the_first_wrong_cell_is_named(rt: HostRuntime) -> Result<(), Fail> {
+    let alloc = rt.alloc();
+    let text = mixed(alloc, text_cell(alloc));
+    assert!(rt; is_bound_so(alloc, text, Kind::Long, Outcome::Kind)?);
+    let absent = mixed(alloc, absent_cell(alloc));
+    assert!(rt; is_bound_so(alloc, absent, Kind::Long, Outcome::Column)?);
     Ok(())
 }

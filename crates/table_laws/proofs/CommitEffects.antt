@@ -33,13 +33,17 @@ pub record Plan : Type 0 where
 abbrev pub plan_of : Tag → ℕ → ℕ → Operation Scope → (File → List Row) → List File → List File → Plan
 plan_of tag start read op view fs added = record { tag = tag; start = start; read = read; removed = taken_files view op fs; added = added; blind = is_literal op.kind; changes = not op.moves }
 
--- what its commit says
+-- a commit of these files
+abbrev pub said : Bool → Bool → List File → List File → Commit
+said blind changes removed added = record { info = Some (info_of blind); protocol = None; meta = None; txns = []; lines = lines_of 0 changes removed added }
+
+-- what a plan's commit says
 abbrev pub said_by : Plan → Commit
-said_by plan = record { info = Some (info_of plan.blind); protocol = None; meta = None; txns = []; lines = lines_of 0 plan.changes plan.removed plan.added }
+said_by plan = said plan.blind plan.changes plan.removed plan.added
 
 -- the commit of an operation, whoever makes it
 abbrev pub effect_of : Operation Scope → (File → List Row) → List File → List File → Commit
-effect_of op view fs added = record { info = Some (info_of (is_literal op.kind)); protocol = None; meta = None; txns = []; lines = lines_of 0 (not op.moves) (taken_files view op fs) added }
+effect_of op view fs added = said (is_literal op.kind) (not op.moves) (taken_files view op fs) added
 
 -- its files are whole, and no path is named twice
 pub record IsWhole (plan : Plan) : Type 0 where

@@ -9,14 +9,14 @@ use Rattle.line_texts.specs.Texts.{columns_of_text}
 use Rattle.snapshot_replay.specs.Table as log
 use Rattle.statement_calls.specs.Texts.{read_commit, read_file}
 use Rattle.table_changes.specs.Rows.{Row}
-use Rattle.table_changes.specs.Table.{File, MetaData, Commit, newer, reconciled, without_path, placed, lines_of}
+use Rattle.table_changes.specs.Table.{File, MetaData, Commit, newer, reconciled, without_path, placed}
 use Rattle.table_changes.specs.Conflicts.{Reads, is_literal, first_clash}
 use Rattle.table_changes.specs.Operations.{Operation, IsSound, Agree, got_files}
 use Rattle.table_changes.proofs.Folded.{each_verdict_is_local}
-use Rattle.table_laws.specs.Commits.{file_of, line_of, info_of, meta_of, changes_of, files_in, meta_in}
+use Rattle.table_laws.specs.Commits.{file_of, line_of, meta_of, changes_of, files_in, meta_in}
 use Rattle.table_laws.specs.Operations.{Scope, passes, may}
 use Rattle.table_laws.specs.History.{Put, or_none, or_nothing, commit_at, live_at, meta_at, rows_of}
-use Rattle.table_laws.proofs.CommitEffects.{effect_of, Says, level_in, judge_of}
+use Rattle.table_laws.proofs.CommitEffects.{said, effect_of, Says, level_in, judge_of}
 use Rattle.table_laws.proofs.Sessions.{LoadedTo}
 use Rattle.table_laws.proofs.Lawful.{AllGot}
 use Rattle.table_laws.proofs.Shown.{InPut}
@@ -124,7 +124,7 @@ module _ (ps : List Put) where
 
     pub same_effect : (added : List File) → effect_of op view fs added ≡ effect_of op (rows_of ps at) fs added
     same_effect added =
-        ap (λ (gone : List File). record { info = Some (info_of (is_literal op.kind)); protocol = None; meta = None; txns = []; lines = lines_of 0 (not op.moves) gone added })
+        ap (λ (gone : List File). said (is_literal op.kind) (not op.moves) gone added)
         (sound.local view (rows_of ps at) fs agree).1
 
     pub same_judge : (meta : Option MetaData) (t : log.Commit) → judge_of meta op view fs t ≡ judge_of meta op (rows_of ps at) fs t

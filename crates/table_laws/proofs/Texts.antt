@@ -9,13 +9,13 @@ use Rattle.line_texts.proofs.Laws.{path_reads_back}
 use Rattle.snapshot_replay.specs.Table.{Commit, table_commit, append_commit}
 use Rattle.statement_calls.specs.Texts.{read_commit}
 use Rattle.table_changes.specs.Rows.{Row}
-use Rattle.table_changes.specs.Table.{File, FileLine, MetaData, lines_of}
+use Rattle.table_changes.specs.Table.{File, FileLine, MetaData}
 use Rattle.table_changes.specs.Conflicts.{first_clash}
 use Rattle.table_changes.specs.Operations.{reads_of}
 use Rattle.table_changes.specs.Statements.{insert_of}
 use Rattle.table_laws.specs.Commits.{line_of, info_of, protocol_of, meta_of}
 use Rattle.table_laws.specs.Operations.{NoRow, passes, may}
-use Rattle.table_laws.proofs.CommitEffects.{new_file, plan_of, Writes, level_in, judge_of}
+use Rattle.table_laws.proofs.CommitEffects.{new_file, plan_of, said, Writes, level_in, judge_of}
 use Rattle.table_laws.proofs.Sound.{none_picked}
 
 later : (v : ℕ) → (suc v == 0) ≡ false
@@ -32,7 +32,7 @@ append_writes tag start read rows view fs v = record {
   back = λ whole. (
     append_commit (data_text tag start 0),
     read_later v (text_of_add (data_text tag start 0)) ∙ ap (option_map append_commit) (path_reads_back (data_text tag start 0) (whole.added).0),
-    ap (λ (gone : List File). record { info = Some (info_of true); protocol = None; meta = None; txns = []; lines = lines_of 0 true gone (new_file tag start 0 ∷ []) }) (sym (none_picked fs)),
+    ap (λ (gone : List File). said true true gone (new_file tag start 0 ∷ [])) (sym (none_picked fs)),
   );
 }
 

@@ -1,0 +1,81 @@
+-- The actions of a statement's commit, by the attempt's reading of the clock.
+use Rattle.std.specs.Prelude.{ℕ, suc, max, false, true, List, [], ◌∷◌, map, Option, Some, None, codes}
+use Rattle.json_lines.specs.declared.map.Entry.{Entry}
+use Rattle.log_actions.specs.declared.action.AddFile.{AddFile}
+use Rattle.log_actions.specs.declared.action.CommitInfo.{CommitInfo}
+use Rattle.log_actions.specs.declared.action.Action.{Action}
+use Rattle.log_actions.specs.declared.action.Action.TheVariants as actions
+use Rattle.table_rules.specs.declared.rules.Level.{Level}
+use Rattle.table_rules.specs.declared.rules.Level.TheVariants.{Serializable, WriteSerializable}
+use Rattle.commit_plans.specs.declared.plan.CommitPlan.{CommitPlan}
+use Rattle.commit_plans.specs.declared.plan.Operation.{Operation}
+use Rattle.commit_plans.specs.declared.plan.Operation.TheVariants.{CreateTable, Write}
+use Rattle.commit_plans.specs.Made.{made_protocol, made_metadata}
+
+-- the name of what a statement does
+unfoldable pub operation_text : Operation → List ℕ
+operation_text CreateTable = codes "CREATE TABLE"
+operation_text Write = codes "WRITE"
+
+-- the value of `delta.isolationLevel` that is this level
+unfoldable pub level_text : Level → List ℕ
+level_text Serializable = codes "Serializable"
+level_text WriteSerializable = codes "WriteSerializable"
+
+-- the stamp of a commit: the reading of the clock, or one more than the stamp of the version before, if that is more
+abbrev pub next_stamp : Option ℕ → ℕ → ℕ
+next_stamp None now = now
+next_stamp (Some last) now = max now (suc last)
+
+-- what the commit says about itself
+abbrev pub info_at : CommitPlan → ℕ → CommitInfo
+info_at plan now = record {
+  timestamp = Some (next_stamp plan.last now);
+  operation = Some (operation_text plan.operation);
+  read_version = plan.read;
+  isolation_level = Some (level_text plan.level);
+  is_blind_append = Some plan.blind;
+  txn_id = Some plan.id;
+}
+
+-- the actions of the attempt with this reading of the clock
+abbrev pub actions_at : CommitPlan → ℕ → List Action
+actions_at plan now = actions.Info (info_at plan now) ∷ plan.changes
+
+-- a data file that a statement adds: its path is its name, and its time the statement's start
+abbrev pub added_file : List ℕ → List (Entry (Option (List ℕ))) → ℕ → ℕ → Option (List ℕ) → AddFile
+added_file name values size start stats = record {
+  path = name;
+  name = name;
+  partition_values = values;
+  size = size;
+  modification_time = start;
+  data_change = true;
+  stats = stats;
+  tags = None;
+}
+
+-- the making of a table, by its statement's identifier and start, the table's level, the text of its schema, the names of its
+-- partition columns and its properties
+abbrev pub table_plan : List ℕ → ℕ → Level → List ℕ → List (List ℕ) → List (Entry (List ℕ)) → CommitPlan
+table_plan id start level schema partition properties = record {
+  read = None;
+  last = None;
+  operation = CreateTable;
+  level = level;
+  blind = false;
+  id = id;
+  changes = actions.Protocol made_protocol ∷ actions.Meta (made_metadata id start schema partition properties) ∷ [];
+}
+
+-- an insert of literal rows over a version with its stamp, by its statement's identifier, the level there and its files in order
+abbrev pub insert_plan : ℕ → ℕ → List ℕ → Level → List AddFile → CommitPlan
+insert_plan read last id level files = record {
+  read = Some read;
+  last = Some last;
+  operation = Write;
+  level = level;
+  blind = true;
+  id = id;
+  changes = map actions.Add files;
+}

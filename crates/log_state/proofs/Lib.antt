@@ -1,0 +1,5 @@
+mod Newer
+mod Tables
+mod Steps
+mod Owns
+mod InOrder

@@ -1,0 +1,12 @@
+//! The table that the commits of a JSON log leave: their actions, reconciled by version and by line (Delta transaction
+//! log protocol, PROTOCOL.md, "Action Reconciliation").
+#![tactic(auto)]
+
+mod kept;
+mod keyed;
+mod listed;
+mod stamp;
+mod state;
+
+pub use kept::Kept;
+pub use state::State;

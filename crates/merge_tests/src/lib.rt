@@ -1,0 +1,13 @@
+//! Tests of merges.
+#![tactic(auto)]
+
+#[cfg(test)]
+mod clauses;
+#[cfg(test)]
+mod days;
+#[cfg(test)]
+mod pairs;
+#[cfg(test)]
+mod plain;
+#[cfg(test)]
+mod worked;
