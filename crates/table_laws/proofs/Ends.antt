@@ -129,14 +129,21 @@ module _ (limit : ℕ) (script : Tag → Option Statement) (outcomes : Tag → O
   pub committed_at : RepliesCommitted script (replies_of outcomes) moments
   committed_at t st version read attempts checkpoint is_st is_reply =
       let e = run_end limit script outcomes moments legal run in
-      has_committed (SessionKnows (entries_of moments)) script (replies_of outcomes) run.tags e.past e.os (history [] moments) e.clock e.stands (known_at limit script outcomes moments legal run e) (entries_of moments) e.is t st
-      is_st version read attempts (claims limit script outcomes moments legal run e t st (CommittedReply version read attempts checkpoint) is_st is_reply)
+      let claim = claims limit script outcomes moments legal run e t st (CommittedReply version read attempts checkpoint) is_st is_reply in (
+        (claim.is_insert).0,
+        (claim.is_insert).1,
+        has_committed (SessionKnows (entries_of moments)) script (replies_of outcomes) run.tags e.past e.os (history [] moments) e.clock e.stands (known_at limit script outcomes moments legal run e) (entries_of moments) e.is t st
+            is_st version read attempts claim,
+      )
 
   pub read_at : RepliesRead script (replies_of outcomes) moments
   read_at t st version given read live_files is_st is_reply =
       let e = run_end limit script outcomes moments legal run in
-      has_read (SessionKnows (entries_of moments)) script (replies_of outcomes) run.tags e.past e.os (history [] moments) e.clock e.stands (known_at limit script outcomes moments legal run e) (entries_of moments) e.is t
-      version given read live_files (claims limit script outcomes moments legal run e t st (Rows version given read live_files) is_st is_reply)
+      let claim = claims limit script outcomes moments legal run e t st (Rows version given read live_files) is_st is_reply in (
+        claim.is_select,
+        has_read (SessionKnows (entries_of moments)) script (replies_of outcomes) run.tags e.past e.os (history [] moments) e.clock e.stands (known_at limit script outcomes moments legal run e) (entries_of moments) e.is t st
+            version given read live_files claim,
+      )
 
 pub first_is_empty : (moments : List Moment) → FirstIsEmpty moments
 first_is_empty moments = ap (λ (ls : List FileLine). rows_in (rows_of (history [] moments) (meta_at (history [] moments) 0)) (reconciled [] ls)) (empty_first (history [] moments))

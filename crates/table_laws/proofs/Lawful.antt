@@ -11,7 +11,7 @@ use Rattle.row_base.specs.declared.row.ScannedFile.{ScannedFile}
 use Rattle.row_base.specs.Sorting.{Sorts}
 use Rattle.op_types.specs.declared.statement.Statement.{Statement}
 use Rattle.op_types.specs.declared.statement.TableSpec.{TableSpec}
-use Rattle.op_types.specs.declared.statement.Statement.TheVariants.{Table}
+use Rattle.op_types.specs.declared.statement.Statement.TheVariants.{Table, Insert, Select}
 use Rattle.op_types.specs.declared.refusal.Refusal.{Refusal}
 use Rattle.op_types.specs.declared.reply.Reply.{Reply}
 use Rattle.op_types.specs.declared.reply.Reply.TheVariants.{Created, Committed, Rows, Killed, Refused}
@@ -160,8 +160,9 @@ pub record IsOwn (tag : Tag) (start : ℕ) (added : List File) : Type 0 where
   pub more : List File
   pub is : added ≡ new_file tag start part ∷ more
 
--- a statement committed a version: its put was answered as stored, or its commit was read back
-pub record ClaimsCommit (K : List ℕ → List ℕ → Type 0) (tag : Tag) (past : Entries) (version read attempts : ℕ) : Type 0 where
+-- an insert committed a version: its put was answered as stored, or its commit was read back
+pub record ClaimsCommit (K : List ℕ → List ℕ → Type 0) (tag : Tag) (statement : Statement) (past : Entries) (version read attempts : ℕ) : Type 0 where
+  pub is_insert : (rows : List Row) × (statement ≡ Insert rows)
   pub sum : read + attempts ≡ version
   pub above : 0 < attempts
   pub small : version < 2 ^ 64
@@ -180,8 +181,9 @@ pub record ClaimsCommit (K : List ℕ → List ℕ → Type 0) (tag : Tag) (past
   pub lost : AllLostBelow past version
   pub there : StoredIn past (commit_text version) body ⊎ GotIn past (commit_text version) body
 
--- a statement loaded a version, and got all its files
-pub record ClaimsRows (K : List ℕ → List ℕ → Type 0) (past : Entries) (version : ℕ) (given : List Row) (read live : ℕ) : Type 0 where
+-- a select loaded a version, and got all its files
+pub record ClaimsRows (K : List ℕ → List ℕ → Type 0) (statement : Statement) (past : Entries) (version : ℕ) (given : List Row) (read live : ℕ) : Type 0 where
+  pub is_select : statement ≡ Select
   pub listed : first_past listed_by past ≡ Some version
   pub s : Snapshot
   pub loaded : LoadedTo (Known K past) (suc version) s
@@ -201,8 +203,8 @@ pub record ClaimsCreated (statement : Statement) (past : Entries) : Type 0 where
 -- what a reply claims of all entries of its statement
 abbrev pub ClaimOf : (List ℕ → List ℕ → Type 0) → Tag → Statement → Entries → Reply → Type 0
 ClaimOf K tag statement past Created = ClaimsCreated statement past
-ClaimOf K tag statement past (Committed version read attempts checkpoint) = ClaimsCommit K tag past version read attempts
-ClaimOf K tag statement past (Rows version rows files_read files_live) = ClaimsRows K past version rows files_read files_live
+ClaimOf K tag statement past (Committed version read attempts checkpoint) = ClaimsCommit K tag statement past version read attempts
+ClaimOf K tag statement past (Rows version rows files_read files_live) = ClaimsRows K statement past version rows files_read files_live
 ClaimOf K tag statement past Killed = Unit {0}
 ClaimOf K tag statement past (Refused r) = ClaimsNothing past r
 

@@ -47,7 +47,7 @@ module _ (K : Tag → List ℕ → List ℕ → Type 0) (script : Tag → Option
         parts_owner (InPut ps) q.tag k.start (tags q.tag k.statement k.is_statement) 0 k.added (knows K script replies tags past os ps clock s known w q k).new (knows K script replies tags past os ps clock s known w q k).parts t start own.part (tags t st is_st) own.small first
 
     -- what the reply of a commit claims
-    pub has_committed : (t : Tag) (st : Statement) → script t ≡ Some st → (version read attempts : ℕ) → ClaimsCommit (K t) t (own t past) version read attempts → HasCommitted journal ps t version read attempts
+    pub has_committed : (t : Tag) (st : Statement) → script t ≡ Some st → (version read attempts : ℕ) → ClaimsCommit (K t) t st (own t past) version read attempts → HasCommitted journal ps t version read attempts
     has_committed t st is_st version read attempts c = record { is_read = sym (given_is listed_by t past journal is_past) ∙ c.listed; counted = c.sum; above = c.above; by = found.0; is_by = found.1; is_tag = found.2 }
       where
         -- it has committed none of the versions below

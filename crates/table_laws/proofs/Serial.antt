@@ -355,8 +355,8 @@ module _ (K : Tag → List ℕ → List ℕ → Type 0) (script : Tag → Option
         }
 
     -- what the reply of rows claims
-    pub has_read : (t : Tag) (version : ℕ) (given : List Row) (read live_files : ℕ) → ClaimsRows (K t) (own t past) version given read live_files → HasRead journal ps t version given read live_files
-    has_read t version given read live_files c =
+    pub has_read : (t : Tag) (st : Statement) (version : ℕ) (given : List Row) (read live_files : ℕ) → ClaimsRows (K t) st (own t past) version given read live_files → HasRead journal ps t version given read live_files
+    has_read t st version given read live_files c =
         let more : (n b : List ℕ) → Known (K t) (own t past) n b → InPut ps n b = shown t in
         let loaded = loaded_more (Known (K t) (own t past)) (InPut ps) more (suc version) c.s c.loaded in
         let scanned = scanned_more (Known (K t) (own t past)) (InPut ps) more (said_paths (c.s).files) c.got c.scanned in

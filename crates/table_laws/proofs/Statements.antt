@@ -98,7 +98,7 @@ module _ (K : List ℕ → List ℕ → Type 0) (tag : Tag) (op : Operation Scop
       by n from to false e = let same : v ≡ n = grind (arith, nat_tests) in subst (λ (m : ℕ). Cleared G (judge_of (meta_in s) op view (files_in s)) m) same (body, got, clear)
 
   module _ (statement : Statement) (is_op : operation_of (schema_in s) statement ≡ Some op) (plan : CommitPlan)
-      (writes : (v : ℕ) → Writes (suc v) plan.text (plan_of tag start read op view (files_in s) added)) (own : IsOwn tag start added)
+      (writes : (v : ℕ) → Writes (suc v) plan.text (plan_of tag start read op view (files_in s) added)) (own : IsOwn tag start added) (is_insert : (rows : List Row) × (statement ≡ Insert rows))
       (clears : (k : ℕ) (body winner : List ℕ) → verdict_of plan body ≡ verdict.Clear winner → (t : Commit) → read_commit (suc k) body ≡ Some t → judge_of (meta_in s) op view (files_in s) t ≡ None) where
     abbrev P : ℕ → Entries → Type 0
     P lost past = Attempts K tag op start read s view added lost past
@@ -155,6 +155,7 @@ module _ (K : List ℕ → List ℕ → Type 0) (tag : Tag) (op : Operation Scop
           won = one_won e f past read p.before body (got ∙ ap (λ (n : ℕ). Get (commit_text n)) p.next) answer p.won;
         })
         (λ lost past e l put answer version attempts small p. record {
+          is_insert = is_insert;
           sum = omega arith;
           above = omega arith;
           small = omega arith;
@@ -174,6 +175,7 @@ module _ (K : List ℕ → List ℕ → Type 0) (tag : Tag) (op : Operation Scop
           there = inl (inl (put ∙ ap (λ (v : ℕ). PutNew (commit_text v) plan.text) (sym version), answer));
         })
         (λ lost past e f l put fault got answer version attempts small p. record {
+          is_insert = is_insert;
           sum = omega arith;
           above = omega arith;
           small = omega arith;
@@ -203,7 +205,7 @@ module _ (K : List ℕ → List ℕ → Type 0) (tag : Tag) (limit : ℕ) (limit
       (λ e rest put is on. ended_lost K tag (Insert rows) out kept _ (e ∷ past) rest (still e put) on)
       (λ e rest put is on.
       attempts K tag (insert_of NoRow rows) start read s (λ a. []) (new_file tag start 0 ∷ []) (Insert rows) (inserts_rows s columns.0 columns.1 rows) (record { text = text_of_add (data_text tag start 0); makes_table = false })
-      (append_writes tag start read rows (λ a. []) (files_in s)) (record { part = 0; small = omega arith; more = []; is = refl }) (λ k body winner clear t reads. append_clears (meta_in s) rows (λ a. []) (files_in s) k body t reads)
+      (append_writes tag start read rows (λ a. []) (files_in s)) (record { part = 0; small = omega arith; more = []; is = refl }) (rows, refl) (λ k body winner clear t reads. append_clears (meta_in s) rows (λ a. []) (files_in s) k body t reads)
       limit out kept (e ∷ past) rest (omega arith)
       (record {
         before = read;
@@ -288,6 +290,7 @@ module _ (K : List ℕ → List ℕ → Type 0) (tag : Tag) (limit : ℕ) (limit
           let all : x.done ≡ paths_of s.files = sym (append-nil x.done) ∙ ap (λ (ps : List (List ℕ)). x.done ++ ps) (sym none) ∙ x.all in
           replied K tag Select out kept (Rows read on.0 (length f.got) (length s.files)) past rest
           (record {
+            is_select = refl;
             listed = (x.fresh).listed;
             s = s;
             loaded = x.loaded;

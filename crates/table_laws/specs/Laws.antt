@@ -10,7 +10,7 @@ use Rattle.edge_api.specs.Journal.{Moment, entries_of}
 use Rattle.row_base.specs.Schema.{TableSchema}
 use Rattle.row_base.specs.Sorting.{Sorts}
 use Rattle.op_types.specs.declared.statement.Statement.{Statement}
-use Rattle.op_types.specs.declared.statement.Statement.TheVariants.{Table}
+use Rattle.op_types.specs.declared.statement.Statement.TheVariants.{Table, Insert, Select}
 use Rattle.op_types.specs.declared.statement.TableSpec.{TableSpec}
 use Rattle.op_types.specs.declared.reply.Reply.{Reply}
 use Rattle.op_types.specs.declared.reply.Reply.TheVariants.{Created, Committed, Rows}
@@ -192,12 +192,12 @@ pub record HasCommitted (journal : Entries) (ps : List Put) (tag : Tag) (version
   pub is_by : put_under ps (commit_text version) ≡ Some by
   pub is_tag : by.tag ≡ tag
 
--- each reply of a commit says which version the statement committed, which one it read, and how many puts it made
+-- each reply of a commit is of an insert, and says which version it committed, which one it read, and how many puts it made
 abbrev pub RepliesCommitted : (Tag → Option Statement) → (Tag → Option Reply) → List Moment → Type 0
 RepliesCommitted script replies moments =
     (tag : Tag) (statement : Statement) (version read attempts : ℕ) (checkpoint : CheckpointOutcome) → script tag ≡ Some statement
     → replies tag ≡ Some (Committed version read attempts checkpoint)
-    → HasCommitted (entries_of moments) (history [] moments) tag version read attempts
+    → (inserted : List Row) × (statement ≡ Insert inserted) × HasCommitted (entries_of moments) (history [] moments) tag version read attempts
 
 -- the rows are those of the newest version in the statement's listing, in order, from all its live files
 pub record HasRead (journal : Entries) (ps : List Put) (tag : Tag) (version : ℕ) (given : List Row) (read live : ℕ) : Type 0 where
@@ -208,9 +208,9 @@ pub record HasRead (journal : Entries) (ps : List Put) (tag : Tag) (version : �
   pub files_read : read ≡ length (live_at ps version)
   pub files_live : live ≡ length (live_at ps version)
 
--- each reply of rows has exactly the rows of its version
+-- each reply of rows is of a select, and has exactly the rows of its version
 abbrev pub RepliesRead : (Tag → Option Statement) → (Tag → Option Reply) → List Moment → Type 0
 RepliesRead script replies moments =
     (tag : Tag) (statement : Statement) (version : ℕ) (rows : List Row) (files_read files_live : ℕ) → script tag ≡ Some statement
     → replies tag ≡ Some (Rows version rows files_read files_live)
-    → HasRead (entries_of moments) (history [] moments) tag version rows files_read files_live
+    → (statement ≡ Select) × HasRead (entries_of moments) (history [] moments) tag version rows files_read files_live
