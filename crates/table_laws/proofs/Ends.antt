@@ -14,7 +14,7 @@ use Rattle.actor_core.specs.Entries.{own}
 use Rattle.table_changes.specs.Table.{FileLine, reconciled, rows_in}
 use Rattle.table_laws.specs.History.{body_of, meta_at, rows_of, history}
 use Rattle.table_laws.specs.Runs.{kept_in, kept_at, kept_before, replies_of, BeginsWith, IsAnsweredPart, IsRun}
-use Rattle.table_laws.specs.Laws.{VersionsAreSerial, FirstIsEmpty, FirstMakesTable, CommitsOnce, CommitsRead, FilesRead, CommitsLand, RepliesCommitted, RepliesRead}
+use Rattle.table_laws.specs.Laws.{VersionsAreSerial, FirstIsEmpty, FirstMakesTable, CommitsOnce, CommitsRead, FilesRead, FilesComeFirst, CommitsLand, RepliesCommitted, RepliesRead}
 use Rattle.table_laws.specs.Folded.{RowsAreFolded}
 use Rattle.table_laws.specs.Views.{NamesPutOnce}
 use Rattle.table_laws.proofs.Sessions.{SessionKnows, KnownKept}
@@ -27,7 +27,7 @@ use Rattle.table_laws.proofs.Standing.{Keeps, KeepsPart, nothing_stands}
 use Rattle.table_laws.proofs.Journals.{StandsAt, stands_at}
 use Rattle.table_laws.proofs.Readings.{empty_first}
 use Rattle.table_laws.proofs.Once.{makes_table, once}
-use Rattle.table_laws.proofs.Serial.{commits_read, files_read, step, lands, has_read}
+use Rattle.table_laws.proofs.Serial.{commits_read, files_read, files_first, step, lands, has_read}
 use Rattle.table_laws.proofs.Owners.{has_committed}
 use Rattle.table_laws.proofs.Folded.{rows_folded}
 
@@ -120,6 +120,11 @@ module _ (limit : ℕ) (script : Tag → Option Statement) (outcomes : Tag → O
   files_at v small is =
       let e = run_end limit script outcomes moments legal run in
       files_read (SessionKnows (entries_of moments)) script (replies_of outcomes) run.tags e.past e.os (history [] moments) e.clock e.stands (known_at limit script outcomes moments legal run e) v small is
+
+  pub first_files_at : FilesComeFirst moments
+  first_files_at v p small is =
+      let e = run_end limit script outcomes moments legal run in
+      files_first (SessionKnows (entries_of moments)) script (replies_of outcomes) run.tags e.past e.os (history [] moments) e.clock e.stands (known_at limit script outcomes moments legal run e) v p small is
 
   pub lands_at : CommitsLand moments
   lands_at v p small is =

@@ -159,10 +159,10 @@ module _ (K : Tag → List ℕ → List ℕ → Type 0) (script : Tag → Option
           added = k.added;
           small = let version = two.1 in let most = k.small in omega arith;
           writes = subst (λ (w : ℕ). Writes (suc w) body (plan_of tag k.start k.read k.op k.view (files_in k.s) k.added)) two.1 k.writes;
-          knows = subst (λ (w : ℕ). Knows tag k.op k.start k.read k.s k.view k.added (Sure K tag more) (InPut more) w) two.1
-              (knows_more tag k.op k.start k.read k.s k.view k.added (Known (K tag) (own tag past)) (StoredIn (own tag past)) (Sure K tag more) (InPut more) k.version
+          knows = subst (λ (w : ℕ). Knows tag k.op k.start k.read k.s k.view k.added (Sure K tag more) (InPut ps) w) two.1
+              (knows_more tag k.op k.start k.read k.s k.view k.added (Known (K tag) (own tag past)) (StoredIn (own tag past)) (Sure K tag more) (InPut ps) k.version
               (λ n b h. elim h [ inl before ↦ inl before | inr got ↦ inr (still n b (s.got n b (own_got tag past n b got))) ])
-              (λ n b h. let p = s.stored tag n b h in still n b (ap body_of p.is ∙ ap (λ (b : List ℕ). Some b) p.body)) k.knows);
+              (λ n b h. let p = s.stored tag n b h in ap body_of p.is ∙ ap (λ (b : List ℕ). Some b) p.body) k.knows);
           started = given_more told_by tag the_entry past _ k.started;
           listed = given_more listed_by tag the_entry past _ k.listed;
           tries = suc k.tries;

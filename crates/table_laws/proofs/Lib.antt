@@ -34,5 +34,6 @@ pub mod Created
 pub mod Views
 pub mod OneSession
 pub mod Starts
+pub mod FilesMean
 pub mod ViewsMean
 pub mod Run

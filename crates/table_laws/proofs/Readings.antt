@@ -17,7 +17,7 @@ use Rattle.table_changes.specs.Rows.{Row}
 use Rattle.table_changes.specs.Table.{File, MetaData, FileLine, Removes, Adds, without_path, placed, reconciled, times, rows_in, adds_lines, lines_of}
 use Rattle.table_laws.specs.Commits.{file_of}
 use Rattle.table_laws.specs.History.{Put, put_under, body_of, or_nothing, commit_at, rows_of}
-use Rattle.table_laws.specs.Laws.{AllAre}
+use Rattle.table_laws.specs.Laws.{AllAre, added_files}
 use Rattle.table_changes.proofs.Files.{is_one, times-cons, times-placed, times-without_other, times-without_same}
 use Rattle.table_laws.proofs.Lawful.{AllScanned}
 use Rattle.table_laws.proofs.Sessions.{LoadedTo}
@@ -90,6 +90,12 @@ pub added_is : (stamp : ℕ) (changes : Bool) (gone added : List File) → first
 added_is stamp changes [] [] = refl
 added_is stamp changes [] (a ∷ added) = refl
 added_is stamp changes (g ∷ gone) added = added_is stamp changes gone added
+
+-- the files that are added
+pub files_added : (stamp : ℕ) (changes : Bool) (gone added : List File) → added_files (lines_of stamp changes gone added) ≡ added
+files_added stamp changes [] [] = refl
+files_added stamp changes [] (a ∷ added) = ap (λ (fs : List File). a ∷ fs) (files_added stamp changes [] added)
+files_added stamp changes (g ∷ gone) added = files_added stamp changes gone added
 
 -- the files that were got hold the rows under their paths
 pub scanned_rows : (ps : List Put) (at : Option MetaData) (adds : List Add) (fs : List ScannedFile) → AllScanned (InPut ps) (said_paths adds) fs → rows_of_files fs ≡ rows_in (rows_of ps at) (map file_of adds)

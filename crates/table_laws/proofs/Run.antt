@@ -1,6 +1,6 @@
 -- Every legal completion of a run's journal is lawful.
 use Rattle.table_laws.specs.Lawful.{EachRunIsLawful}
-use Rattle.table_laws.proofs.Ends.{serial_at, folded_at, names_at, once_at, first_at, commits_at, files_at, lands_at, committed_at, read_at, first_is_empty}
+use Rattle.table_laws.proofs.Ends.{serial_at, folded_at, names_at, once_at, first_at, commits_at, files_at, first_files_at, lands_at, committed_at, read_at, first_is_empty}
 use Rattle.table_laws.proofs.Moments.{puts_at_moments}
 use Rattle.table_laws.proofs.Created.{created_at}
 use Rattle.table_laws.proofs.Views.{listing_at, reads_at, covers_at}
@@ -17,6 +17,7 @@ each_run_is_lawful limit script outcomes moments legal run = record {
   once = once_at limit script outcomes moments legal run;
   commits = commits_at limit script outcomes moments legal run;
   files = files_at limit script outcomes moments legal run;
+  files_first = first_files_at limit script outcomes moments legal run;
   lands = lands_at limit script outcomes moments legal run;
   puts = puts_at_moments limit script outcomes moments legal run;
   newest = listing_at limit script outcomes moments legal run;

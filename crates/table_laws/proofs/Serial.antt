@@ -26,18 +26,18 @@ use Rattle.table_laws.specs.Commits.{IsWholeFile, schema_of, files_in, meta_in}
 use Rattle.table_laws.specs.Operations.{Scope, passes, may, operation_of}
 use Rattle.table_laws.specs.History.{Put, put_under, body_of, commit_at, live_at, meta_at, schema_at, level_for, rows_of, view_of, rows_at, IsCommitted}
 use Rattle.table_laws.specs.Runs.{listed_by, version_read}
-use Rattle.table_laws.specs.Laws.{schema_read, operation_by, operation_at, inserted_by, appended, Step, versions_from, IsWonBefore, Lands, HasRead, ReadsAt, AllAre, FileReads, AllFilesRead}
+use Rattle.table_laws.specs.Laws.{schema_read, operation_by, operation_at, inserted_by, appended, Step, versions_from, IsWonBefore, Lands, HasRead, ReadsAt, AllAre, FileReads, AllFilesRead, added_files, HasFilesBefore}
 use Rattle.table_laws.proofs.CommitEffects.{plan_of, effect_of, Says, IsWhole, judge_of}
 use Rattle.table_laws.proofs.Sound.{each_operation_is_sound, says_truly}
 use Rattle.table_laws.proofs.Lawful.{Known, AllGot, Knows, ClaimsRows}
 use Rattle.table_laws.proofs.Known.{loaded_more, knows_more, scanned_more}
-use Rattle.table_laws.proofs.Tries.{put_in_order, put_under-front}
+use Rattle.table_laws.proofs.Tries.{put_in_order, put_under-front, in_front}
 use Rattle.table_laws.proofs.Names.{same_file}
 use Rattle.table_laws.proofs.Shown.{InPut, Sure, backwards, given_is, own_got, put_of_body, some_same}
 use Rattle.table_laws.proofs.Standing.{Stands, Committed}
 use Rattle.table_laws.proofs.Effects.{commit_is, said_is, loaded_files, loaded_meta, same_written, same_effect, same_judge}
 use Rattle.table_laws.proofs.Parts.{parts_rows, parts_read, parts_apart, parts_whole, parts_new}
-use Rattle.table_laws.proofs.Readings.{some_put, some_of_body, is_some, none_more, empty_first, scanned_rows, scanned_long, length-paths, length-files, first_loaded, lines_all, picked_are, times-picked}
+use Rattle.table_laws.proofs.Readings.{some_put, some_of_body, is_some, files_added, none_more, empty_first, scanned_rows, scanned_long, length-paths, length-files, first_loaded, lines_all, picked_are, times-picked}
 
 module _ (K : Tag → List ℕ → List ℕ → Type 0) (script : Tag → Option Statement) (replies : Tag → Option Reply) (tags : (tag : Tag) (statement : Statement) → script tag ≡ Some statement → IsTag tag)
     (past : Entries) (os : Objects) (ps : List Put) (clock : ℕ) (s : Stands K script replies tags past os ps clock) (known : (t : Tag) (n b : List ℕ) → K t n b → InPut ps n b) where
@@ -50,7 +50,8 @@ module _ (K : Tag → List ℕ → List ℕ → Type 0) (script : Tag → Option
   shown t n b (inr got) = s.got n b (own_got t past n b got)
 
   pub knows : (v : ℕ) (p : Put) (k : Committed K script replies tags past ps v p) → Knows p.tag k.op k.start k.read k.s k.view k.added (InPut ps) (InPut ps) v
-  knows v p k = knows_more p.tag k.op k.start k.read k.s k.view k.added (Sure K p.tag ps) (InPut ps) (InPut ps) (InPut ps) v (sure p.tag) (λ n b h. h) k.knows
+  knows v p k = knows_more p.tag k.op k.start k.read k.s k.view k.added (Sure K p.tag ps) (InPut k.earlier) (InPut ps) (InPut ps) v (sure p.tag)
+      (λ n b h. subst (λ (qs : List Put). InPut qs n b) (sym k.order) (in_front k.earlier (p ∷ k.later) n b h)) k.knows
 
   pub one_below : (n : ℕ) → suc n < 2 ^ 64 → IsCommitted ps (suc n) → IsCommitted ps n
   one_below n small is =
@@ -263,6 +264,18 @@ module _ (K : Tag → List ℕ → List ℕ → Type 0) (script : Tag → Option
       let reads = parts_read ps two.0.tag c.start 0 c.added (knows v two.0 c).new (knows v two.0 c).parts in
       subst (λ (t : Commit). AllFilesRead ps (reconciled (live_at ps v) t.lines)) (sym (says v two.0 small two.1))
       (lines_all (λ a. FileReads ps a.name) 0 (not c.op.moves) (taken_files (rows_of ps (meta_at ps c.read)) c.op (live_at ps c.read)) c.added (live_at ps v) (files_read v (omega (arith, small)) (one_below v small is)) reads)
+
+  -- the files that a commit adds were put before it
+  pub files_first : (v : ℕ) (p : Put) → suc v < 2 ^ 64 → put_under ps (commit_text (suc v)) ≡ Some p → HasFilesBefore ps p (suc v)
+  files_first v p small is =
+      let k = s.commits v p small is in
+      let added = files_added 0 (not k.op.moves) (taken_files (rows_of ps (meta_at ps k.read)) k.op (live_at ps k.read)) k.added in
+      record {
+        earlier = k.earlier;
+        later = k.later;
+        order = k.order;
+        there = subst (AllFilesRead k.earlier) (sym (ap (λ (t : Commit). added_files t.lines) (says v p small is) ∙ added)) (parts_read k.earlier p.tag k.start 0 k.added (k.knows).new (k.knows).parts);
+      }
 
   commit_put : (n : ℕ) → n < 2 ^ 64 → IsCommitted ps n → (k : ℕ) → k < n → (p : Put) × (put_under ps (commit_text (suc k)) ≡ Some p)
   commit_put n small is k lt = some_put (put_under ps (commit_text (suc k))) (below n small is (suc k) (omega arith))

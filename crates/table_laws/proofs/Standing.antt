@@ -87,15 +87,15 @@ module _ (K : Tag → List ℕ → List ℕ → Type 0) (script : Tag → Option
     pub added : List File
     pub small : suc v < 2 ^ 60
     pub writes : Writes (suc v) p.body (plan_of p.tag start read op view (files_in s) added)
-    pub knows : Knows p.tag op start read s view added (Sure K p.tag ps) (InPut ps) v
+    pub earlier : List Put
+    pub later : List Put
+    pub order : ps ≡ earlier ++ p ∷ later
+    pub knows : Knows p.tag op start read s view added (Sure K p.tag ps) (InPut earlier) v
     pub started : first_past told_by (own p.tag past) ≡ Some start
     pub listed : first_past listed_by (own p.tag past) ≡ Some read
     pub tries : ℕ
     pub sum : read + tries ≡ suc v
     pub puts : versions_put (own p.tag past) ≡ versions_down read tries
-    pub earlier : List Put
-    pub later : List Put
-    pub order : ps ≡ earlier ++ p ∷ later
     pub won : (k : ℕ) → read ≤ k → k < v → (q : Put) × (put_under earlier (commit_text (suc k)) ≡ Some q)
 
   abbrev pub IsMade : Put → Type 0
@@ -160,7 +160,7 @@ module _ (K : Tag → List ℕ → List ℕ → Type 0) (script : Tag → Option
     added = k.added;
     small = k.small;
     writes = k.writes;
-    knows = knows_more p.tag k.op k.start k.read k.s k.view k.added (Sure K p.tag ps) (InPut ps) (Sure K p.tag qs) (InPut qs) v (sure_more K p.tag ps qs more) more k.knows;
+    knows = knows_more p.tag k.op k.start k.read k.s k.view k.added (Sure K p.tag ps) (InPut k.earlier) (Sure K p.tag qs) (InPut k.earlier) v (sure_more K p.tag ps qs more) (λ n b h. h) k.knows;
     started = given_more told_by p.tag e past _ k.started;
     listed = given_more listed_by p.tag e past _ k.listed;
     tries = k.tries;

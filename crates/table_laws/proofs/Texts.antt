@@ -22,7 +22,7 @@ later : (v : ℕ) → (suc v == 0) ≡ false
 later v = grind (arith, nat_tests)
 
 -- a commit above version 0 is an append
-read_later : (v : ℕ) (text : List ℕ) → read_commit (suc v) text ≡ option_map append_commit (path_of_text text)
+pub read_later : (v : ℕ) (text : List ℕ) → read_commit (suc v) text ≡ option_map append_commit (path_of_text text)
 read_later v text = ap (λ (b : Bool). if b then option_map table_commit (columns_of_text text) else option_map append_commit (path_of_text text)) (later v)
 
 -- the text of an append, whose file is whole, is read as the path of its file

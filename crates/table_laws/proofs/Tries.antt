@@ -8,11 +8,11 @@ use Rattle.edge_api.specs.declared.call.Tag.{Tag}
 use Rattle.call_phases.specs.Phases.{Entries}
 use Rattle.edge_api.specs.Journal.{same_tag}
 use Rattle.actor_core.specs.Entries.{own}
-use Rattle.table_laws.specs.History.{Put, put_under}
+use Rattle.table_laws.specs.History.{Put, put_under, body_of}
 use Rattle.table_laws.specs.Runs.{version_put, with_version, versions_put}
 use Rattle.table_laws.specs.Laws.{versions_from}
 use Rattle.table_laws.proofs.Lawful.{versions_down}
-use Rattle.table_laws.proofs.Shown.{backwards}
+use Rattle.table_laws.proofs.Shown.{InPut, backwards, put_of_body}
 
 -- the first list from its end, before the second
 abbrev pub onto : List ℕ → List ℕ → List ℕ
@@ -66,6 +66,10 @@ put_under-front (p ∷ xs) ys n q h = by (bytes_eq p.name n) h (put_under-front 
     by : (b : Bool) → (if b then Some p else put_under xs n) ≡ Some q → (put_under xs n ≡ Some q → put_under (xs ++ ys) n ≡ Some q) → (if b then Some p else put_under (xs ++ ys) n) ≡ Some q
     by true h rest = h
     by false h rest = rest h
+
+-- and so is its body
+pub in_front : (xs ys : List Put) (n b : List ℕ) → InPut xs n b → InPut (xs ++ ys) n b
+in_front xs ys n b h = let q = put_of_body (put_under xs n) b h in ap body_of (put_under-front xs ys n q.0 q.1 ∙ sym q.1) ∙ h
 
 -- a put behind others is found under its name where no other is there
 pub put_under-behind : (xs ys : List Put) (p : Put) (n : List ℕ) → p.name ≡ n → put_under xs n ≡ None → put_under (xs ++ p ∷ ys) n ≡ Some p

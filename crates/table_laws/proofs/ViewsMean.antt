@@ -29,6 +29,7 @@ use Rattle.table_laws.specs.ViewsMean.{maker, first, second, puts, lists, lists_
 use Rattle.table_laws.proofs.Shown.{one_under, one_itself, some_same}
 use Rattle.table_laws.proofs.Readings.{is_some}
 use Rattle.table_laws.proofs.Effects.{commit_is}
+use Rattle.table_laws.proofs.FilesMean.{no_some, same_head, no_parts, small_one, first_holds, last_refuted}
 
 self_name : (n : List ℕ) → bytes_eq n n ≡ true
 self_name n = (bytes_eq-Decides n n).1 refl
@@ -53,16 +54,6 @@ shows_one v small = ap (λ (o : Option ℕ). later o None) (ap commit_of (commit
 
 reads_one : (v : ℕ) → v < 2 ^ 64 → listed_by (ListNames log_prefix) (Names (one_listed v)) ≡ Some v
 reads_one v small = ap (λ (b : Bool). if b then newest (one_listed v) else None) (self_name log_prefix) ∙ shows_one v small
-
-no_some : {A : Type 0} (x : A) → None ≡ Some x → ⊥
-no_some x h = cc
-
-same_head : (x y : Moment) (xs ys : List Moment) → x ∷ xs ≡ y ∷ ys → (x ≡ y) × (xs ≡ ys)
-same_head x y xs ys h = (cc, cc)
-
-no_parts : (before after : List Moment) (m : Moment) → [] ≡ before ++ m ∷ after → ⊥
-no_parts [] after m h = cc
-no_parts (x ∷ before) after m h = cc
 
 no_listing : (n b prefix : List ℕ) → PutNew n b ≡ ListNames prefix → ⊥
 no_listing n b prefix h = cc
@@ -112,9 +103,6 @@ second_reads v small later is y k = by (same_tag later first) refl (same_tag lat
     by true g d i k = let lt = is.1 in let q : later.statement ≡ 1 = ap (λ (u : Tag). u.statement) (same_tag_is later first g) in absurd (omega (arith, lt, q))
     by false g true i k = some_same v y (sym (ap (λ (o : Option ℕ). or_first o None) (reads_one v small)) ∙ k)
     by false g false i k = absurd (no_some y k)
-
-small_one : suc zero < 2 ^ 64
-small_one = omega arith
 
 newest_holds : (before after : List Moment) (m : Moment) (listed : List Listed) → puts maker 0 ∷ lists first 0 ∷ [] ≡ before ++ m ∷ after → m.entry.call ≡ ListNames log_prefix → m.entry.answer ≡ Names listed → IsNewest (history [] before) (newest listed)
 newest_holds [] after m listed parts call answer = absurd (no_listing (commit_text 0) [] log_prefix (ap (λ (x : Moment). x.entry.call) (same_head (puts maker 0) m (lists first 0 ∷ []) after parts).0 ∙ call))
@@ -228,6 +216,8 @@ views_mean = record {
   forgets = λ h. let le = h (put_of first 1) second 1 0 small_one (one_itself (put_of first 1)) (refl, omega arith) (ap (λ (o : Option ℕ). or_first o None) (reads_one 0 (omega arith))) in omega (arith, le);
   once = once_holds;
   twice = twice_refuted;
+  files_first = first_holds;
+  files_last = last_refuted;
   follows = follows_holds;
   precedes = λ h. let k = h (lands first 0 1 ∷ []) (starts first 1 ∷ []) refl (commit_text 0) (landed first 0 1) (one_itself (landed first 0 1)) in no_some k.0 k.1;
   later = later_holds;

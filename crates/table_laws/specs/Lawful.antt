@@ -6,7 +6,7 @@ use Rattle.op_types.specs.declared.statement.Statement.{Statement}
 use Rattle.op_types.specs.declared.reply.Reply.{Reply}
 use Rattle.statement_calls.specs.declared.finish.Finish.{Finish}
 use Rattle.table_laws.specs.Runs.{IsRun, replies_of}
-use Rattle.table_laws.specs.Laws.{VersionsAreSerial, CommitsOnce, FirstIsEmpty, FirstMakesTable, CommitsRead, FilesRead, CommitsLand, CommitPutsAreDecided, RepliesCreated, RepliesCommitted, RepliesRead}
+use Rattle.table_laws.specs.Laws.{VersionsAreSerial, CommitsOnce, FirstIsEmpty, FirstMakesTable, CommitsRead, FilesRead, FilesComeFirst, CommitsLand, CommitPutsAreDecided, RepliesCreated, RepliesCommitted, RepliesRead}
 use Rattle.table_laws.specs.Folded.{RowsAreFolded}
 use Rattle.table_laws.specs.Views.{ListingIsNewest, ReadsNeverFall, ReadsCoverCommits, RowsOfOneSession, NamesPutOnce}
 use Rattle.table_laws.specs.Starts.{AtEachMoment, PutsFollowStarts, NewerLandLater}
@@ -23,9 +23,10 @@ pub record IsLawful (script : Tag → Option Statement) (replies : Tag → Optio
   pub first : FirstMakesTable script moments
   pub empty : FirstIsEmpty moments
   pub once : CommitsOnce moments
-  -- commits and data files read
+  -- commits and data files read, and the files that a commit adds were put before it
   pub commits : CommitsRead moments
   pub files : FilesRead moments
+  pub files_first : FilesComeFirst moments
   -- A commit above version 0 was put once at each version above the one that was read, in order, and lost to other statements' commits but for the last.
   -- Each put wins, loses or fails at its own moment
   pub lands : CommitsLand moments

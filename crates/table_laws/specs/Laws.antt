@@ -24,11 +24,11 @@ use Rattle.statement_calls.specs.Texts.{read_commit, read_file}
 use Rattle.statement_calls.specs.Answered.{names_of}
 use Rattle.actor_core.specs.Entries.{own}
 use Rattle.table_changes.specs.Rows.{Row}
-use Rattle.table_changes.specs.Table.{File}
+use Rattle.table_changes.specs.Table.{File, FileLine, Removes, Adds}
 use Rattle.table_changes.specs.Operations.{Operation, inserted}
 use Rattle.table_changes.specs.Serial.{SerialStep}
 use Rattle.table_laws.specs.Operations.{Scope, passes, operation_of}
-use Rattle.table_laws.specs.History.{Put, history, put_under, live_at, meta_at, schema_at, level_for, rows_at, IsCommitted}
+use Rattle.table_laws.specs.History.{Put, history, put_under, commit_at, live_at, meta_at, schema_at, level_for, rows_at, IsCommitted}
 use Rattle.table_laws.specs.Runs.{version_read, versions_put}
 use Rattle.table_laws.specs.Refused.{FaultedIn}
 
@@ -116,6 +116,23 @@ AllFilesRead ps fs = AllAre (λ a. FileReads ps a.name) fs
 -- each live file of a version reads
 abbrev pub FilesRead : List Moment → Type 0
 FilesRead moments = (v : ℕ) → v < 2 ^ 64 → IsCommitted (history [] moments) v → AllFilesRead (history [] moments) (live_at (history [] moments) v)
+
+-- the files that lines add
+abbrev pub added_files : List FileLine → List File
+added_files [] = []
+added_files (Removes t changes ∷ ls) = added_files ls
+added_files (Adds a changes ∷ ls) = a ∷ added_files ls
+
+-- each file that a version's commit adds was put before this put of it, and reads
+pub record HasFilesBefore (ps : List Put) (by : Put) (version : ℕ) : Type 0 where
+  pub earlier : List Put
+  pub later : List Put
+  pub order : ps ≡ earlier ++ by ∷ later
+  pub there : AllFilesRead earlier (added_files (commit_at ps version).lines)
+
+-- the files of each commit above version 0 were put before it
+abbrev pub FilesComeFirst : List Moment → Type 0
+FilesComeFirst moments = (v : ℕ) (by : Put) → suc v < 2 ^ 64 → put_under (history [] moments) (commit_text (suc v)) ≡ Some by → HasFilesBefore (history [] moments) by (suc v)
 
 -- versions that one statement committed are one
 abbrev pub CommitsOnce : List Moment → Type 0

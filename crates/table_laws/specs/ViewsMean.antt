@@ -1,4 +1,4 @@
--- What the words of Views and Starts, and the level of a version, mean: for each a short journal of which it holds, and one of which it is refuted.
+-- What the words of Views and Starts, FilesComeFirst and level_for mean: for each a short journal of which it holds, and one of which it is refuted.
 -- Laws have no body that a wrong program could turn, so these stand in place of edits.
 -- No crate cites them; views_mean has them as its clause.
 use Rattle.std.specs.Prelude.{◌≡◌, ℕ, false, true, List, [], ◌∷◌}
@@ -9,13 +9,14 @@ use Rattle.edge_api.specs.declared.call.Call.TheVariants.{PutNew, List as ListNa
 use Rattle.edge_api.specs.declared.call.Answer.{Answer}
 use Rattle.edge_api.specs.declared.call.Answer.TheVariants.{Stored, Names, Gone, Time}
 use Rattle.edge_api.specs.Journal.{Moment}
-use Rattle.table_rules.specs.Names.{log_prefix, commit_text}
-use Rattle.line_texts.specs.Texts.{text_of_columns, is_word}
+use Rattle.table_rules.specs.Names.{log_prefix, commit_text, data_text}
+use Rattle.line_texts.specs.Texts.{text_of_columns, text_of_add, text_of_rows, is_word}
 use Rattle.table_changes.specs.Rows.{Row}
 use Rattle.table_changes.specs.Table.{Serializable, WriteSerializable}
 use Rattle.table_changes.specs.Statements.{insert_of, check_of}
 use Rattle.table_laws.specs.Operations.{NoRow, passes, may}
 use Rattle.table_laws.specs.History.{Put, level_for}
+use Rattle.table_laws.specs.Laws.{FilesComeFirst}
 use Rattle.table_laws.specs.Views.{ListingIsNewest, ReadsNeverFall, ReadsCoverCommits, NamesPutOnce}
 use Rattle.table_laws.specs.Starts.{AtEachMoment, PutsFollowStarts, NewerLandLater}
 
@@ -46,6 +47,13 @@ lists tag version = answered tag (ListNames log_prefix) (Names (record { name = 
 abbrev pub lists_none : Tag → Moment
 lists_none tag = answered tag (ListNames log_prefix) (Names [])
 
+-- a data file without rows is put, and the commit of a version that adds it
+abbrev pub puts_file : Tag → Moment
+puts_file tag = answered tag (PutNew (data_text tag 0 0) (text_of_rows [])) Stored
+
+abbrev pub adds_file : Tag → ℕ → Moment
+adds_file tag version = answered tag (PutNew (commit_text version) (text_of_add (data_text tag 0 0))) Stored
+
 -- the clock is read, and a version's commit is put at a clock
 abbrev pub starts : Tag → ℕ → Moment
 starts tag clock = record { entry = record { tag = tag; call = Now; answer = Time clock }; clock = clock; took_effect = false }
@@ -70,6 +78,9 @@ pub record ViewsMean : Type 0 where
   -- two names are put once each; where an object has gone, its name is put twice
   pub once : NamesPutOnce (puts first 0 ∷ puts second 1 ∷ [])
   pub twice : NamesPutOnce (puts first 0 ∷ deletes first 0 ∷ puts second 0 ∷ []) → ⊥
+  -- a file is put before the commit that adds it, and not after it
+  pub files_first : FilesComeFirst (puts_file first ∷ adds_file first 1 ∷ [])
+  pub files_last : FilesComeFirst (adds_file first 1 ∷ puts_file first ∷ []) → ⊥
   -- a statement puts once it has started, and not before
   pub follows : AtEachMoment PutsFollowStarts (starts first 1 ∷ lands first 0 1 ∷ [])
   pub precedes : AtEachMoment PutsFollowStarts (lands first 0 1 ∷ starts first 1 ∷ []) → ⊥
