@@ -208,6 +208,23 @@ fn raised(alloc: Global, n: i64, file: &[Pair], rows: &[Pair]) -> Result<Outcome
     Ok(after(alloc, op, file, rows, &[], ANY))
 }
 
+/// `id` is this number.
+fn with_id(id: i64) -> Scope
+    ensures { is_bound 2 result ≡ true }
+{
+    Pred::Compare {
+        op: Op::Eq,
+        column: 0,
+        right: Operand::Literal(Datum::Long(id)),
+    }
+}
+
+/// An update `set v = v + n where id = 1` of the row `(1, 10)`.
+fn raised_first(alloc: Global, n: i64, row: Pair) -> Result<Outcome, Fail> {
+    let op = update(alloc, with_id(1), 1, n)?;
+    Ok(after(alloc, op, &[pair(1, 10)], &[row], &[], ANY))
+}
+
 #[test]
 fn an_update_sets_a_column(rt: HostRuntime) -> Result<(), Fail> {
     let alloc = rt.alloc();
@@ -215,6 +232,8 @@ fn an_update_sets_a_column(rt: HostRuntime) -> Result<(), Fail> {
     assert!(rt; raised(alloc, 1, &FOUR, &four)? == Outcome::Touched);
     assert!(rt; raised(alloc, 1, &[pair(1, 2)], &[pair(1, 2)])? == Outcome::Left);
     assert!(rt; raised(alloc, 0, &[pair(3, 4)], &[pair(3, 4)])? == Outcome::Touched);
+    assert!(rt; raised_first(alloc, 1, pair(1, 11))? == Outcome::Touched);
+    assert!(rt; raised_first(alloc, 5, pair(1, 15))? == Outcome::Touched);
     Ok(())
 }
 
@@ -246,6 +265,8 @@ fn the_least_wrong_row_is_named(rt: HostRuntime) -> Result<(), Fail> {
     let most = i64::MAX;
     let file = [pair(5, most), pair(2, most), pair(3, most)];
     assert!(rt; set_wrong(alloc, 1, &file, pair(2, most))? == Outcome::Overflow);
+    let file = [pair(1, 1), pair(2, most)];
+    assert!(rt; set_wrong(alloc, 1, &file, pair(2, most))? == Outcome::Overflow);
     let null = Outcome::Row(RowFault::Null { column: 0 });
     let file = [pair(5, most), (Some(4), None), (Some(6), None)];
     assert!(rt; set_wrong(alloc, 0, &file, (Some(4), None))? == null);
@@ -254,18 +275,19 @@ fn the_least_wrong_row_is_named(rt: HostRuntime) -> Result<(), Fail> {
     Ok(())
 }
 
-/// An insert select of `null, v + 1` of a row, whose fault should name it.
-fn select_wrong(alloc: Global, row: Pair) -> Result<Outcome, Fail> {
-    let null = Expr::Literal(Datum::Null);
-    let op = insert_select(alloc, null, sum(alloc, 1, 1)?)?;
+/// An insert select of a literal and `v + 1` of a row, whose fault should name it.
+fn select_wrong(alloc: Global, first: Datum, row: Pair) -> Result<Outcome, Fail> {
+    let op = insert_select(alloc, Expr::Literal(first), sum(alloc, 1, 1)?)?;
     Ok(after(alloc, op, &[row], &[], &[], row))
 }
 
 #[test]
 fn of_one_row_an_overflow_comes_first(rt: HostRuntime) -> Result<(), Fail> {
     let alloc = rt.alloc();
-    assert!(rt; select_wrong(alloc, pair(1, i64::MAX))? == Outcome::Overflow);
+    assert!(rt; select_wrong(alloc, Datum::Null, pair(1, i64::MAX))? == Outcome::Overflow);
     let null = Outcome::Row(RowFault::Null { column: 0 });
-    assert!(rt; select_wrong(alloc, pair(1, 1))? == null);
+    assert!(rt; select_wrong(alloc, Datum::Null, pair(1, 1))? == null);
+    let kind = Outcome::Row(RowFault::Kind { column: 0 });
+    assert!(rt; select_wrong(alloc, Datum::Boolean(true), pair(1, 1))? == kind);
     Ok(())
 }

@@ -1,7 +1,9 @@
-//! Tests of changes of files' rows.
+//! Tests of changes of files' rows, and of statements that do not fit.
 #![tactic(auto)]
 
 #[cfg(test)]
 mod changes_of_files;
+#[cfg(test)]
+mod faults;
 #[cfg(test)]
 mod pairs;
