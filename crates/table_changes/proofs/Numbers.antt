@@ -5,7 +5,7 @@ use Rattle.table_rules.specs.Properties.{entry_of}
 use Rattle.table_changes.specs.Table.{File, number_by}
 use Rattle.table_changes.specs.Laws.{IsBelow, Holds, Landed}
 use Rattle.table_changes.specs.Example.{passes, may, row, first_file, second_file, view}
-use Rattle.table_changes.specs.Numbers.{app, commits, ops, NumbersRise}
+use Rattle.table_changes.specs.Numbers.{app, checked, commits, ops, NumbersRise}
 use Rattle.table_changes.proofs.Statements.{insert_sound, check_sound}
 
 holds_all : (n : ℕ) (a : File) → Holds passes may commits view n a
@@ -30,6 +30,7 @@ facts zero lt = record {
   written = refl;
   added = first_file ∷ [];
   filled = λ x. refl;
+  sets = refl;
   widens = inl (record { schema = refl; same = refl });
   stamp = 0;
   lines = refl;
@@ -50,6 +51,7 @@ facts (suc zero) lt = record {
   written = refl;
   added = second_file ∷ [];
   filled = λ x. refl;
+  sets = refl;
   widens = inl (record { schema = refl; same = refl });
   stamp = 0;
   lines = refl;
@@ -63,13 +65,14 @@ facts (suc zero) lt = record {
 }
 facts (suc (suc zero)) lt = record {
   op = ops 2;
-  sound = check_sound Bool passes may true (λ x. true);
+  sound = check_sound Bool passes may true (λ x. true) (λ meta. Some checked);
   read = 2;
   below = omega arith;
   new = [];
   written = refl;
   added = [];
   filled = λ x. refl;
+  sets = refl;
   widens = inl (record { schema = refl; same = refl });
   stamp = 0;
   lines = refl;

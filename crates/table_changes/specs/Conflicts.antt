@@ -36,6 +36,15 @@ may_remove Scans = true
 may_remove Selects = false
 may_remove Rewrites = true
 
+-- whether it may set the table's metadata. Of those that read rows a check of them does, which changes none
+abbrev pub may_set : LooksAt → Bool
+may_set Makes = true
+may_set Literal = false
+may_set Settings = true
+may_set Scans = true
+may_set Selects = false
+may_set Rewrites = false
+
 pub data Clash : Type 0 where
   Protocol : Clash
   Metadata : Clash

@@ -1,7 +1,7 @@
 -- A table at the weaker level with an application's transactions: two inserts with the numbers 5 and 9, and a check of all rows, which is at the
--- stricter level.
-use Rattle.std.specs.Prelude.{◌≡◌, ℕ, zero, suc, ◌<◌, Bool, true, false, List, [], ◌∷◌, Some, None}
-use Rattle.table_changes.specs.Table.{Commit, Serializable, WriteSerializable, live_by, lines_of, number_by}
+-- stricter level and sets what it checked.
+use Rattle.std.specs.Prelude.{◌≡◌, ℕ, zero, suc, ◌<◌, Bool, true, false, List, [], ◌∷◌, Some, None, codes}
+use Rattle.table_changes.specs.Table.{Commit, MetaData, Serializable, WriteSerializable, live_by, lines_of, number_by}
 use Rattle.table_changes.specs.Conflicts.{Append, Transaction, first_clash}
 use Rattle.table_changes.specs.Operations.{Operation, reads_of}
 use Rattle.table_changes.specs.Laws.{rows_at, level_at, level_for, Landed}
@@ -11,16 +11,20 @@ use Rattle.table_changes.specs.Example.{passes, may, row, first_file, second_fil
 abbrev pub app : List ℕ
 app = 7 ∷ []
 
+-- the metadata with a check of all rows
+abbrev pub checked : MetaData
+checked = metadata [] (record { name = codes "delta.constraints.known"; value = codes "id IS NOT NULL" } ∷ [])
+
 abbrev pub commits : ℕ → Commit
 commits zero = makes (metadata [] [])
 commits (suc zero) = record (commit true (lines_of 0 true [] (first_file ∷ []))) { txns = (app, 5) ∷ [] }
 commits (suc (suc zero)) = record (commit true (lines_of 0 true [] (second_file ∷ []))) { txns = (app, 9) ∷ [] }
-commits (suc (suc (suc k))) = commit false []
+commits (suc (suc (suc k))) = record (commit false []) { meta = Some checked }
 
 abbrev pub ops : ℕ → Operation Bool
 ops zero = insert_of false (row 1 ∷ [])
 ops (suc zero) = insert_of false (row 2 ∷ [])
-ops (suc (suc k)) = check_of passes may true (λ x. true)
+ops (suc (suc k)) = check_of passes may true (λ x. true) (λ meta. Some checked)
 
 pub record NumbersRise : Type 0 where
   pub facts : (k : ℕ) → k < 3 → Landed passes may commits view k

@@ -3,8 +3,8 @@ use Rattle.std.specs.Prelude.{◌≡◌, ◌⊎◌, ℕ, ◌+◌, Bool, true, fa
 use Rattle.std.specs.List.{filter}
 use Rattle.row_base.specs.Bags.{count_of, SameRows, others}
 use Rattle.table_changes.specs.Rows.{Row}
-use Rattle.table_changes.specs.Table.{File, Level, rows_in, paths_of}
-use Rattle.table_changes.specs.Conflicts.{LooksAt, is_literal, is_scan, may_remove, Reads}
+use Rattle.table_changes.specs.Table.{File, Level, MetaData, rows_in, paths_of}
+use Rattle.table_changes.specs.Conflicts.{LooksAt, is_literal, is_scan, may_remove, may_set, Reads}
 
 -- an operation, by the scopes that statements name
 pub record Operation (Scope : Type 0) : Type 0 where
@@ -21,6 +21,8 @@ pub record Operation (Scope : Type 0) : Type 0 where
   pub writes : (File → List Row) → List File → Option (List Row)
   -- what a blind append brings
   pub inserts : List Row
+  -- what it makes of the table's metadata
+  pub sets : Option MetaData → Option MetaData
   -- it moves rows alone
   pub moves : Bool
   -- it is checked at the stricter level, whatever the table's
@@ -64,6 +66,12 @@ module _ {Scope : Type 0} (passes : Scope → Row → Bool) where
       app = app;
     }
 
+    -- it is of a kind that may set the metadata, takes no file out and writes no row
+    pub record SetsAlone (op : Operation Scope) : Type 0 where
+      pub kind : may_set op.kind ≡ true
+      pub takes_none : (view : File → List Row) (fs : List File) (a : File) → op.takes view fs a ≡ false
+      pub writes_none : (view : File → List Row) (fs : List File) (new : List Row) → op.writes view fs ≡ Some new → new ≡ []
+
     pub record IsSound (op : Operation Scope) : Type 0 where
       -- the same rows give the same rows, whatever their order
       pub respects : (xs ys : List Row) → SameRows xs ys → SameIfGiven (op.gives xs) (op.gives ys)
@@ -74,6 +82,8 @@ module _ {Scope : Type 0} (passes : Scope → Row → Bool) where
       pub got : is_scan op.kind ≡ true → (view : File → List Row) (fs : List File) (a : File) → op.takes view fs a ≡ true → op.gets fs a ≡ true
       -- one that looks at no file takes none out
       pub leaves : may_remove op.kind ≡ false → (view : File → List Row) (fs : List File) (a : File) → op.takes view fs a ≡ false
+      -- it leaves the metadata as it is, or sets that alone
+      pub alone : ((meta : Option MetaData) → op.sets meta ≡ meta) ⊎ SetsAlone op
       -- only what it got decides
       pub local : (view other : File → List Row) (fs : List File) → Agree view other (got_files op fs) → (op.writes view fs ≡ op.writes other fs) × (taken_files view op fs ≡ taken_files other op fs)
       -- the new rows and the scope's old ones are the rows taken out and what comes in the scope's place

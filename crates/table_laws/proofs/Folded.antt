@@ -27,7 +27,7 @@ use Rattle.table_laws.proofs.Serial.{facts, is_appended, op_is, read_is, meta_is
 
 -- an operation that is there; where none is, one that changes nothing
 abbrev or_making : Option (Operation Scope) → Operation Scope
-or_making None = making_of NoRow
+or_making None = making_of NoRow (λ meta. meta)
 or_making (Some op) = op
 
 module _ (K : Tag → List ℕ → List ℕ → Type 0) (script : Tag → Option Statement) (replies : Tag → Option Reply) (tags : (tag : Tag) (statement : Statement) → script tag ≡ Some statement → IsTag tag)

@@ -28,14 +28,14 @@ use Rattle.table_laws.specs.History.{Put, put_under, body_of, commit_at, live_at
 use Rattle.table_laws.specs.Runs.{listed_by, version_read}
 use Rattle.table_laws.specs.Laws.{schema_read, operation_by, operation_at, inserted_by, appended, Step, versions_from, IsWonBefore, Lands, HasRead, ReadsAt, AllAre, FileReads, AllFilesRead, added_files, HasFilesBefore}
 use Rattle.table_laws.proofs.CommitEffects.{plan_of, effect_of, Says, IsWhole, judge_of}
-use Rattle.table_laws.proofs.Sound.{each_operation_is_sound, says_truly}
+use Rattle.table_laws.proofs.Sound.{each_operation_is_sound, says_truly, sets_none}
 use Rattle.table_laws.proofs.Lawful.{Known, AllGot, Knows, ClaimsRows}
 use Rattle.table_laws.proofs.Known.{loaded_more, knows_more, scanned_more}
 use Rattle.table_laws.proofs.Tries.{put_in_order, put_under-front, in_front}
 use Rattle.table_laws.proofs.Names.{same_file}
 use Rattle.table_laws.proofs.Shown.{InPut, Sure, backwards, given_is, own_got, put_of_body, some_same}
 use Rattle.table_laws.proofs.Standing.{Stands, Committed}
-use Rattle.table_laws.proofs.Effects.{commit_is, said_is, loaded_files, loaded_meta, same_written, same_effect, same_judge}
+use Rattle.table_laws.proofs.Effects.{commit_is, said_is, loaded_columns, loaded_files, loaded_meta, same_written, same_effect, same_judge}
 use Rattle.table_laws.proofs.Parts.{parts_rows, parts_read, parts_apart, parts_whole, parts_new}
 use Rattle.table_laws.proofs.Readings.{some_put, some_of_body, is_some, files_added, none_more, empty_first, scanned_rows, scanned_long, length-paths, length-files, first_loaded, lines_all, picked_are, times-picked}
 
@@ -227,6 +227,10 @@ module _ (K : Tag → List ℕ → List ℕ → Type 0) (script : Tag → Option
     written = written v p small is;
     added = (s.commits v p small is).added;
     filled = filled v p small is (meta_at ps (suc v));
+    sets =
+        let k = s.commits v p small is in
+        let columns = loaded_columns (InPut ps) k.read k.s (knows v p k).loaded in
+        meta_kept v p small is ∙ sym (sets_none k.s columns.0 columns.1 k.statement k.op k.is_op (meta_at ps v));
     widens = inl (record { schema = ap schema_of (meta_kept v p small is); same = ap (rows_of ps) (meta_kept v p small is) });
     stamp = 0;
     lines = ap (λ (t : Commit). t.lines) (says v p small is);

@@ -89,5 +89,5 @@ pub record ViewsMean : Type 0 where
   pub early : AtEachMoment NewerLandLater (starts first 2 ∷ lists first 0 ∷ lands second 1 1 ∷ []) → ⊥
   -- an insert is checked at the level of the table that it read, and a check of all rows at the stricter one; without a table there is no weaker level
   pub level : (columns : List (List ℕ)) (rows : List Row) → list_all is_word columns ≡ true → level_for (table_put columns ∷ []) (insert_of NoRow rows) 0 ≡ WriteSerializable
-  pub strict : (columns : List (List ℕ)) → level_for (table_put columns ∷ []) (check_of passes may NoRow (λ x. true)) 0 ≡ Serializable
+  pub strict : (columns : List (List ℕ)) → level_for (table_put columns ∷ []) (check_of passes may NoRow (λ x. true) (λ meta. meta)) 0 ≡ Serializable
   pub no_table : (rows : List Row) → level_for [] (insert_of NoRow rows) 0 ≡ WriteSerializable → ⊥
