@@ -2,8 +2,6 @@
 #![tactic(auto)]
 
 #[cfg(test)]
-mod clauses;
-#[cfg(test)]
 mod days;
 #[cfg(test)]
 mod pairs;

@@ -1,13 +1,12 @@
 //! Merges as they are described, each row of the source beside each of the table, and what `merge_files` makes of the
 //! same rows.
-use crate::clauses::{Clauses, Matched, Other};
-use crate::pairs::{Answer, Case, Pair, Why, comes_to};
+use crate::pairs::{Answer, Case, Clauses, Matched, Other, Pair, Why, comes_to};
 use row_base::{NoMemory, RowFault};
 use std::alloc::Global;
 use std::test::Fail;
 
 /// What comes of a row.
-#[derive(Clone, Copy, Debug, Drop)]
+#[derive(Clone, Copy, Drop)]
 enum Image {
     Stays,
     Goes,

@@ -1,6 +1,5 @@
 //! Merges into rows of two longs whose outcomes are worked out by hand.
-use crate::clauses::{Clauses, Matched, Other};
-use crate::pairs::{Answer, Case, Pair, Why, comes_to};
+use crate::pairs::{Answer, Case, Clauses, Matched, Other, Pair, Why, comes_to};
 use row_base::RowFault;
 use std::alloc::Global;
 use std::test::Fail;
@@ -28,15 +27,6 @@ fn all_come(alloc: Global, clauses: Clauses, nulls: bool, samples: &[Sample]) ->
         }
     }
     true
-}
-
-fn clauses(matched: Matched, insert: bool, other: Other, above: i64) -> Clauses {
-    Clauses {
-        matched,
-        insert,
-        other,
-        above,
-    }
 }
 
 const MOST: i64 = i64::MAX;
@@ -75,13 +65,6 @@ const TAKES: [Sample; 4] = [
     ),
 ];
 
-#[test]
-fn matched_rows_are_updated(rt: HostRuntime) -> Result<(), Fail> {
-    let takes = clauses(Matched::Takes, true, Other::Stays, 0);
-    assert!(rt; all_come(rt.alloc(), takes, false, &TAKES));
-    Ok(())
-}
-
 /// `when not matched then insert`
 const INSERTS: [Sample; 3] = [
     (
@@ -104,13 +87,6 @@ const INSERTS: [Sample; 3] = [
         Answer::Rows(&[], &[(None, Some(2)), (Some(3), Some(30))]),
     ),
 ];
-
-#[test]
-fn rows_that_match_none_are_added(rt: HostRuntime) -> Result<(), Fail> {
-    let inserts = clauses(Matched::Stays, true, Other::Stays, 0);
-    assert!(rt; all_come(rt.alloc(), inserts, false, &INSERTS));
-    Ok(())
-}
 
 /// `when matched then delete when not matched then insert when not matched by source and v > 25 then update set v = 0`
 const ALL: [Sample; 2] = [
@@ -144,13 +120,6 @@ const ALL: [Sample; 2] = [
     ),
 ];
 
-#[test]
-fn all_clauses_at_once(rt: HostRuntime) -> Result<(), Fail> {
-    let all = clauses(Matched::Goes, true, Other::Falls, 25);
-    assert!(rt; all_come(rt.alloc(), all, false, &ALL));
-    Ok(())
-}
-
 /// `when not matched by source and v > 5 then delete`; `v` may be null.
 const OTHERS_GO: [Sample; 2] = [
     // a matched row is none of the others
@@ -168,13 +137,6 @@ const OTHERS_GO: [Sample; 2] = [
         Answer::Rows(&["a"], &[(Some(1), None), (Some(2), Some(5))]),
     ),
 ];
-
-#[test]
-fn others_are_taken_away(rt: HostRuntime) -> Result<(), Fail> {
-    let others_go = clauses(Matched::Stays, false, Other::Goes, 5);
-    assert!(rt; all_come(rt.alloc(), others_go, true, &OTHERS_GO));
-    Ok(())
-}
 
 /// `when matched then update set v = v + source.v`; `v` may be null.
 const ADDS: [Sample; 4] = [
@@ -209,13 +171,6 @@ const ADDS: [Sample; 4] = [
         Answer::Fails(Why::Ambiguous, (Some(7), Some(MOST))),
     ),
 ];
-
-#[test]
-fn the_least_row_is_named(rt: HostRuntime) -> Result<(), Fail> {
-    let adds = clauses(Matched::Adds, false, Other::Stays, 0);
-    assert!(rt; all_come(rt.alloc(), adds, true, &ADDS));
-    Ok(())
-}
 
 const NULL: Why = Why::Row(RowFault::Null { column: 1 });
 
@@ -257,9 +212,28 @@ const TURNS: [Sample; 5] = [
     ),
 ];
 
+/// The clauses of a merge, whether `v` may be null, and samples.
+type Merge = (Matched, bool, Other, i64, bool, &'static [Sample]);
+
+const MERGES: [Merge; 6] = [
+    (Matched::Takes, true, Other::Stays, 0, false, &TAKES),
+    (Matched::Stays, true, Other::Stays, 0, false, &INSERTS),
+    (Matched::Goes, true, Other::Falls, 25, false, &ALL),
+    (Matched::Stays, false, Other::Goes, 5, true, &OTHERS_GO),
+    (Matched::Adds, false, Other::Stays, 0, true, &ADDS),
+    (Matched::Stays, false, Other::Turns, 0, false, &TURNS),
+];
+
 #[test]
-fn others_are_updated(rt: HostRuntime) -> Result<(), Fail> {
-    let turns = clauses(Matched::Stays, false, Other::Turns, 0);
-    assert!(rt; all_come(rt.alloc(), turns, false, &TURNS));
+fn merges_come_to_what_was_worked_out(rt: HostRuntime) -> Result<(), Fail> {
+    for (matched, insert, other, above, nulls, samples) in MERGES {
+        let clauses = Clauses {
+            matched,
+            insert,
+            other,
+            above,
+        };
+        assert!(rt; all_come(rt.alloc(), clauses, nulls, samples));
+    }
     Ok(())
 }

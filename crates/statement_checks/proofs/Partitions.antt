@@ -1,6 +1,7 @@
 -- Places of partition columns, none of which is wrong after those before it.
-use Rattle.std.proofs.Common.{◌≡◌, ◌==◌, ℕ, ◌+◌, nat_lt, Bool, true, false, not, ◌&&◌, ◌||◌, if◌then◌else◌, cond, List, [], ◌∷◌, ◌++◌, length, Option, Some, None, Result, Ok, Err, refl, sym, ◌∙◌, ap, subst}
+use Rattle.std.proofs.Common.{◌≡◌, ◌==◌, ℕ, ◌+◌, nat_lt, Bool, true, false, not, ◌&&◌, ◌||◌, ◌≤◌, if◌then◌else◌, cond, List, [], ◌∷◌, ◌++◌, drop, length, Option, Some, None, Result, Ok, Err, refl, sym, ◌∙◌, ap, subst}
 use Rattle.std.specs.List.{list_all, list_any}
+use Rattle.std.proofs.lemmas.List.{append-nil, drop_all}
 use Rattle.std.specs.Option.{option_map, option_or}
 use Rattle.row_base.specs.Faults.{◌>>=◌}
 use Rattle.row_base.specs.Schema.{first_after, is_wrong_place, repeats_name, is_column_count, schema_fault}
@@ -50,6 +51,12 @@ right_after columns before (n ∷ ns) ps e within =
 
 pub places_right : (columns : List Column) (names : List (List ℕ)) (ps : List ℕ) → partition_in columns [] names ≡ Ok ps → list_all (λ p. nat_lt p (length columns)) ps ≡ true → first_after (is_wrong_place (length columns)) [] ps ≡ None
 places_right columns names ps e within = right_after columns [] names ps e within
+
+-- where no name is left, the places so far are the places
+pub places_made : (columns : List Column) (places : List ℕ) (names : List (List ℕ)) (i : ℕ) → length names ≤ i → (partition_in columns places (drop i names) >>= λ ps. Ok (places ++ ps)) ≡ partition_in columns [] names → partition_in columns [] names ≡ Ok places
+unfolding partition_in
+places_made columns places names i past e =
+    sym e ∙ ap (λ ns. partition_in columns places ns >>= λ ps. Ok (places ++ ps)) (drop_all i names past) ∙ ap (λ (ps : List ℕ). Ok ps) (append-nil places)
 
 -- columns that make a schema alone make one with places of which none is wrong
 pub no_fault : (cs : List Column) (ps : List ℕ) → schema_fault cs [] ≡ None → first_after (is_wrong_place (length cs)) [] ps ≡ None → schema_fault cs ps ≡ None

@@ -60,34 +60,19 @@ fn partition_place(columns: &[Column], before: &[u32], name: &Text) -> Result<u3
     Ok(place)
 }
 
-/// The places of partition columns.
+/// The places of partition columns, of which none is wrong.
 #[tactic(auto, unfolding(crate::specs::Tables::partition_in))]
 fn each_place(alloc: Global, columns: &[Column], names: &[Text]) -> Result<Items<u32>, BindFault>
     requires { length columns.now < 65 }
     ensures read { Reads is_memory result (partition_in columns.now [] names.now) }
     ensures within { IfOk result (λ ps. list_all (λ p. nat_lt p (length columns.now)) ps ≡ true) }
+    ensures right { IfOk result (λ ps. first_after (is_wrong_place (length columns.now)) [] ps ≡ None) }
 {
     let mut places = Vec::with_capacity(alloc, names.len())?;
     for name in names {
-        let place = partition_place(columns, places.as_slice(), name)?;
-        places.push(place)?;
+        places.push(partition_place(columns, places.as_slice(), name)?)?;
     }
     Ok(Items::from_vec(places))
-}
-
-/// The same; none of them is wrong.
-#[tactic(auto, using(crate::proofs::Partitions::places_right))]
-fn partition_places(
-    alloc: Global,
-    columns: &[Column],
-    names: &[Text],
-) -> Result<Items<u32>, BindFault>
-    requires { length columns.now < 65 }
-    ensures read { Reads is_memory result (partition_in columns.now [] names.now) }
-    ensures right { IfOk result (λ ps. first_after (is_wrong_place (length columns.now)) [] ps ≡ None) }
-{
-    let places = each_place(alloc, columns, names)?;
-    Ok(places)
 }
 
 /// The schema of columns and places that make one.
@@ -116,7 +101,7 @@ pub fn bound_table(
     ensures { Reads is_memory result (table_in columns.now partition.now properties.now) }
 {
     check_columns(columns)?;
-    let places = partition_places(alloc, columns, partition)?;
+    let places = each_place(alloc, columns, partition)?;
     check_properties(properties)?;
     made(copy_columns(alloc, columns)?, places)
 }
