@@ -1,12 +1,13 @@
-//! Deletes, updates and insert selects over `id long not null, v long, n integer, s string`.
+//! Deletes, updates, insert selects and merges over `id long not null, v long, n integer, s string`.
 use crate::parts::{
     Answer, Comparison, Form, Literal, ONE, Right, Set, Side, WIDE, equals, exprs, is_answer,
-    schema, sets,
+    schema, sets, texts,
 };
+use op_types::{BySource, Change, MergeSpec};
 use predicates::{BindFault, Pred};
-use row_base::{NoMemory, Schema, Text};
+use row_base::{Datum, Items, NoMemory, Rows, Schema, Text};
 use sqlite_items::Boxed;
-use statement_checks::{bound_delete, bound_insert_select, bound_update};
+use statement_checks::{bound_delete, bound_insert_select, bound_merge, bound_update};
 use std::alloc::Global;
 use std::test::Fail;
 
@@ -62,16 +63,6 @@ const DELETES: [Delete; 14] = [
     (("v", Right::Column("z")), ABSENT, Answer::Column("z")),
     (("y", Right::Column("z")), ABSENT, Answer::Column("y")),
 ];
-
-fn deletes_come(alloc: Global, schema: &Schema, deletes: &[Delete]) -> bool {
-    for (first, second, answer) in deletes {
-        let bound = bind_delete(alloc, schema, *first, *second);
-        if !is_answer(&bound, *answer) {
-            return false;
-        }
-    }
-    true
-}
 
 fn bind_update(
     alloc: Global,
@@ -168,31 +159,16 @@ const UPDATES: [Update; 21] = [
     ),
 ];
 
-fn updates_come(alloc: Global, schema: &Schema, updates: &[Update]) -> bool {
-    for (forms, comparison, answer) in updates {
-        let bound = bind_update(alloc, schema, forms, *comparison);
-        if !is_answer(&bound, *answer) {
-            return false;
-        }
-    }
-    true
-}
-
-fn bind_insert_select(
-    alloc: Global,
-    schema: &Schema,
-    forms: &[Form],
-    comparison: Comparison,
-) -> Result<(), BindFault> {
-    let exprs = exprs(alloc, forms)?;
-    let pred = equals(alloc, comparison)?;
-    bound_insert_select(alloc, schema, exprs.as_slice(), &pred)?;
-    Ok(())
-}
-
 const V: Form = Form::Of(Side::Cell("v"));
 
 const N: Form = Form::Of(Side::Cell("n"));
+
+fn bind_insert_select(alloc: Global, schema: &Schema, select: &Select) -> Result<(), BindFault> {
+    let exprs = exprs(alloc, select.0)?;
+    let pred = equals(alloc, select.1)?;
+    bound_insert_select(alloc, schema, exprs.as_slice(), &pred)?;
+    Ok(())
+}
 
 /// The expressions of an insert select, its predicate, and what it comes to.
 type Select = (&'static [Form], Comparison, Answer);
@@ -208,14 +184,174 @@ const SELECTS: [Select; 8] = [
     (&[LITERAL, V, N, TEXT], ABSENT, Answer::Column("w")),
 ];
 
-fn selects_come(alloc: Global, schema: &Schema, selects: &[Select]) -> bool {
-    for (forms, comparison, answer) in selects {
-        let bound = bind_insert_select(alloc, schema, forms, *comparison);
+/// The clauses of a merge: the column of the source that matched rows take, and what becomes of the others.
+type Clauses = (Option<&'static str>, Option<(Literal, Option<Literal>)>);
+
+fn nulls(alloc: Global, width: usize) -> Result<Vec<Datum>, NoMemory> {
+    let mut row = Vec::new(alloc);
+    for _ in 0..width {
+        row.push(Datum::Null)?;
+    }
+    Ok(row)
+}
+
+/// Rows of nulls of these widths.
+fn source(alloc: Global, widths: &[usize]) -> Result<Rows, NoMemory> {
+    let mut rows = Rows::new(alloc);
+    for width in widths {
+        let mut row = nulls(alloc, *width)?;
+        rows.push_from(&mut row)?;
+    }
+    Ok(rows)
+}
+
+/// `update set NAME = FORM`
+fn update(alloc: Global, name: &'static str, form: Form) -> Result<Change<Text>, NoMemory> {
+    let sets = sets(alloc, &[(name, form)])?;
+    Ok(Change::Update(Items::from_vec(sets)))
+}
+
+/// `when matched then update set n = source.NAME`
+fn matched_of(
+    alloc: Global,
+    matched: Option<&'static str>,
+) -> Result<Option<Change<Text>>, NoMemory> {
+    match matched {
+        Some(name) => Ok(Some(update(alloc, "n", Form::Of(Side::Source(name)))?)),
+        None => Ok(None),
+    }
+}
+
+/// `update set s = LITERAL`, or `delete`.
+fn change_of(alloc: Global, set: Option<Literal>) -> Result<Change<Text>, NoMemory> {
+    match set {
+        Some(literal) => update(alloc, "s", Form::Of(Side::Literal(literal))),
+        None => Ok(Change::Delete),
+    }
+}
+
+/// `when not matched by source and v = LITERAL then`, and that.
+fn other_of(
+    alloc: Global,
+    other: Option<(Literal, Option<Literal>)>,
+) -> Result<Option<BySource<Text>>, NoMemory> {
+    match other {
+        Some((literal, set)) => {
+            let pred = equals(alloc, ("v", Right::Literal(literal)))?;
+            let change = change_of(alloc, set)?;
+            Ok(Some(BySource { pred, change }))
+        }
+        None => Ok(None),
+    }
+}
+
+fn merge_of(
+    alloc: Global,
+    keys: &[&str],
+    widths: &[usize],
+    clauses: Clauses,
+) -> Result<MergeSpec<Text>, NoMemory> {
+    let keys = Items::from_vec(texts(alloc, keys)?);
+    let source = source(alloc, widths)?;
+    let matched = matched_of(alloc, clauses.0)?;
+    let by_source = other_of(alloc, clauses.1)?;
+    Ok(MergeSpec {
+        keys,
+        source,
+        matched,
+        insert: true,
+        by_source,
+    })
+}
+
+fn bind_merge(
+    alloc: Global,
+    schema: &Schema,
+    keys: &[&str],
+    widths: &[usize],
+    clauses: Clauses,
+) -> Result<(), BindFault> {
+    let merge = merge_of(alloc, keys, widths, clauses)?;
+    bound_merge(alloc, schema, &merge)?;
+    Ok(())
+}
+
+/// `v = null`, and a delete.
+const GOES: Clauses = (None, Some((Literal::Null, None)));
+
+/// `n = source.n`; `v = 1`, and `s = 'x'`.
+const BOTH: Clauses = (Some("n"), Some((ONE, Some(WORD))));
+
+/// Keys, widths of the rows of the source, clauses, and what a merge comes to.
+type Merge = (&'static [&'static str], &'static [usize], Clauses, Answer);
+
+const MERGES: [Merge; 16] = [
+    (&["id", "n"], &[4, 4], BOTH, Answer::Bound),
+    (&["s"], &[], (None, None), Answer::Bound),
+    (&["id"], &[4], GOES, Answer::Bound),
+    // the keys
+    (&["id", "w"], &[4], BOTH, Answer::Column("w")),
+    (&["id", "id", "w"], &[4], BOTH, Answer::Twice("id")),
+    (&["w", "w"], &[4, 3], BOTH, Answer::Column("w")),
+    (&["id", "id"], &[3], (Some("w"), None), Answer::Twice("id")),
+    // then the rows
+    (&["id"], &[4, 3], (Some("w"), None), Answer::Count),
+    (&["id"], &[5], (None, Some((WORD, None))), Answer::Count),
+    (&["id"], &[0], BOTH, Answer::Count),
+    // then the clause of matched rows
+    (
+        &["id"],
+        &[4],
+        (Some("w"), Some((WORD, None))),
+        Answer::Column("w"),
+    ),
+    (
+        &["id"],
+        &[4],
+        (Some("s"), Some((WORD, None))),
+        Answer::Kind("n"),
+    ),
+    (&["id"], &[4], (Some("v"), None), Answer::Kind("n")),
+    // and then that of the others, its predicate first
+    (
+        &["id"],
+        &[4],
+        (Some("n"), Some((WORD, Some(ONE)))),
+        Answer::Kind("v"),
+    ),
+    (
+        &["id"],
+        &[4],
+        (Some("n"), Some((ONE, Some(ONE)))),
+        Answer::Kind("s"),
+    ),
+    (&["id"], &[4], (None, Some((WORD, None))), Answer::Kind("v")),
+];
+
+fn deletes_come(alloc: Global, schema: &Schema, deletes: &[Delete]) -> bool {
+    deletes.iter().all(|(first, second, answer)| {
+        is_answer(&bind_delete(alloc, schema, *first, *second), *answer)
+    })
+}
+
+fn updates_come(alloc: Global, schema: &Schema, updates: &[Update]) -> bool {
+    for (forms, comparison, answer) in updates {
+        let bound = bind_update(alloc, schema, forms, *comparison);
         if !is_answer(&bound, *answer) {
             return false;
         }
     }
     true
+}
+
+fn selects_come(alloc: Global, schema: &Schema, selects: &[Select]) -> bool {
+    selects.iter().all(|select| is_answer(&bind_insert_select(alloc, schema, select), select.2))
+}
+
+fn merges_come(alloc: Global, schema: &Schema, merges: &[Merge]) -> bool {
+    merges.iter().all(|(keys, widths, clauses, answer)| {
+        is_answer(&bind_merge(alloc, schema, keys, widths, *clauses), *answer)
+    })
 }
 
 #[test]
@@ -225,9 +361,11 @@ fn changes(rt: HostRuntime) -> Result<(), Fail> {
     let deletes = deletes_come(alloc, &schema, &DELETES);
     let updates = updates_come(alloc, &schema, &UPDATES);
     let selects = selects_come(alloc, &schema, &SELECTS);
+    let merges = merges_come(alloc, &schema, &MERGES);
     drop(schema);
     assert!(rt; deletes);
     assert!(rt; updates);
     assert!(rt; selects);
+    assert!(rt; merges);
     Ok(())
 }

@@ -6,10 +6,6 @@ mod changes;
 #[cfg(test)]
 mod literal;
 #[cfg(test)]
-mod merges;
-#[cfg(test)]
 mod parts;
-#[cfg(test)]
-mod properties;
 #[cfg(test)]
 mod tables;

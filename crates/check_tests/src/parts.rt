@@ -7,7 +7,7 @@ use std::alloc::Global;
 use std::test::Fail;
 
 /// A literal of a script.
-#[derive(Clone, Copy, Debug, Drop)]
+#[derive(Clone, Copy, Drop)]
 pub enum Literal {
     Null,
     Number(i64),
@@ -16,7 +16,7 @@ pub enum Literal {
 }
 
 /// What a column is compared with.
-#[derive(Clone, Copy, Debug, Drop)]
+#[derive(Clone, Copy, Drop)]
 pub enum Right {
     Column(&'static str),
     Literal(Literal),
@@ -26,7 +26,7 @@ pub enum Right {
 pub type Comparison = (&'static str, Right);
 
 /// A part of an expression.
-#[derive(Clone, Copy, Debug, Drop)]
+#[derive(Clone, Copy, Drop)]
 pub enum Side {
     Cell(&'static str),
     Source(&'static str),
@@ -34,7 +34,7 @@ pub enum Side {
 }
 
 /// An expression.
-#[derive(Clone, Copy, Debug, Drop)]
+#[derive(Clone, Copy, Drop)]
 pub enum Form {
     Of(Side),
     Sum(Side, Side),
@@ -44,7 +44,7 @@ pub enum Form {
 pub type Set = (&'static str, Form);
 
 /// What a statement comes to.
-#[derive(Clone, Copy, Debug, Drop)]
+#[derive(Clone, Copy, Drop)]
 pub enum Answer {
     Bound,
     Column(&'static str),
