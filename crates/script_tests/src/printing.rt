@@ -18,6 +18,16 @@ fn printed(alloc: Global, replies: Vec<Reply>) -> Result<Vec<u8>, NoMemory> {
     print_replies(alloc, names.as_slice(), all.as_slice())
 }
 
+/// Whether this is the text of one session's replies.
+fn is_printed(
+    alloc: Global,
+    replies: Result<Vec<Reply>, NoMemory>,
+    wanted: &[u8],
+) -> Result<bool, NoMemory> {
+    let text = printed(alloc, replies?)?;
+    Ok(text.as_slice() == wanted)
+}
+
 /// The reply with these two rows.
 fn rows_of(alloc: Global, first: &[Datum], second: &[Datum]) -> Result<Reply, NoMemory> {
     let mut rows = Rows::new(alloc);
@@ -31,9 +41,8 @@ fn rows_of(alloc: Global, first: &[Datum], second: &[Datum]) -> Result<Reply, No
     })
 }
 
-#[test]
-fn a_commit_and_rows_are_printed(rt: HostRuntime) -> Result<(), Fail> {
-    let alloc = rt.alloc();
+/// A commit, and two rows.
+fn commit_and_rows(alloc: Global) -> Result<Vec<Reply>, NoMemory> {
     let mut replies = Vec::new(alloc);
     replies.push(Reply::Committed {
         version: 1,
@@ -44,16 +53,14 @@ fn a_commit_and_rows_are_printed(rt: HostRuntime) -> Result<(), Fail> {
     let first = [Datum::Long(1), Datum::Text(Text::make(alloc, "x")?)];
     let second = [Datum::Long(2), Datum::Null];
     replies.push(rows_of(alloc, &first, &second)?)?;
-    let text = printed(alloc, replies)?;
-    let wanted =
-        b"table 1 created 0\na 1 committed 1 read 0 attempts 1\na 2 rows 2 version 1 files 1 of 1\n(1, 'x')\n(2, null)\n";
-    assert!(rt; text.as_slice() == wanted.as_slice());
-    Ok(())
+    Ok(replies)
 }
 
-#[test]
-fn data_are_printed_as_literals(rt: HostRuntime) -> Result<(), Fail> {
-    let alloc = rt.alloc();
+const COMMIT_AND_ROWS: &[u8] =
+    b"table 1 created 0\na 1 committed 1 read 0 attempts 1\na 2 rows 2 version 1 files 1 of 1\n(1, 'x')\n(2, null)\n";
+
+/// Rows of the other kinds of data, and of characters that are written otherwise.
+fn literals(alloc: Global) -> Result<Vec<Reply>, NoMemory> {
     let first = [
         Datum::Text(Text::make(alloc, "it's \\ \n\u{7f}")?),
         Datum::Date(19782),
@@ -61,16 +68,14 @@ fn data_are_printed_as_literals(rt: HostRuntime) -> Result<(), Fail> {
     let second = [Datum::Boolean(false), Datum::Integer(-2147483648)];
     let mut replies = Vec::new(alloc);
     replies.push(rows_of(alloc, &first, &second)?)?;
-    let text = printed(alloc, replies)?;
-    let wanted =
-        b"table 1 created 0\na 1 rows 2 version 1 files 1 of 1\n('it''s \\\\ \\x0a\\x7f', date '2024-02-29')\n(false, -2147483648)\n";
-    assert!(rt; text.as_slice() == wanted.as_slice());
-    Ok(())
+    Ok(replies)
 }
 
-#[test]
-fn refusals_of_numbers_are_printed(rt: HostRuntime) -> Result<(), Fail> {
-    let alloc = rt.alloc();
+const LITERALS: &[u8] =
+    b"table 1 created 0\na 1 rows 2 version 1 files 1 of 1\n('it''s \\\\ \\x0a\\x7f', date '2024-02-29')\n(false, -2147483648)\n";
+
+/// Refusals that tell numbers or nothing.
+fn refusals_of_numbers(alloc: Global) -> Result<Vec<Reply>, NoMemory> {
     let mut replies = Vec::new(alloc);
     replies.push(Reply::Refused(Refusal::NoTable))?;
     replies.push(Reply::Refused(Refusal::Outlasted {
@@ -82,16 +87,14 @@ fn refusals_of_numbers_are_printed(rt: HostRuntime) -> Result<(), Fail> {
         feature: Feature::Versions,
     }))?;
     replies.push(Reply::Killed)?;
-    let text = printed(alloc, replies)?;
-    let wanted =
-        b"table 1 created 0\na 1 refused 1 no table\na 2 refused 9 outlasted 1700000000000 1700000005001\na 3 refused 8 attempts 1\na 4 refused 13 unsupported versions\na 5 killed\n";
-    assert!(rt; text.as_slice() == wanted.as_slice());
-    Ok(())
+    Ok(replies)
 }
 
-#[test]
-fn refusals_with_names_are_printed(rt: HostRuntime) -> Result<(), Fail> {
-    let alloc = rt.alloc();
+const REFUSALS_OF_NUMBERS: &[u8] =
+    b"table 1 created 0\na 1 refused 1 no table\na 2 refused 9 outlasted 1700000000000 1700000005001\na 3 refused 8 attempts 1\na 4 refused 13 unsupported versions\na 5 killed\n";
+
+/// Refusals that tell names.
+fn refusals_with_names(alloc: Global) -> Result<Vec<Reply>, NoMemory> {
     let name = Name::make(alloc, "_delta_log/00000000000000000001.json")?;
     let mut replies = Vec::new(alloc);
     replies.push(Reply::Refused(Refusal::BadObject {
@@ -107,21 +110,19 @@ fn refusals_with_names_are_printed(rt: HostRuntime) -> Result<(), Fail> {
             name,
         },
     }))?;
-    let text = printed(alloc, replies)?;
-    let wanted =
-        b"table 1 created 0\na 1 refused 12 bad object _delta_log/00000000000000000001.json line 2 shape\na 2 refused 14 fault put new _delta_log/00000000000000000001.json\n";
-    assert!(rt; text.as_slice() == wanted.as_slice());
-    Ok(())
+    Ok(replies)
 }
+
+const REFUSALS_WITH_NAMES: &[u8] =
+    b"table 1 created 0\na 1 refused 12 bad object _delta_log/00000000000000000001.json line 2 shape\na 2 refused 14 fault put new _delta_log/00000000000000000001.json\n";
 
 /// A reply for a feature that isn't supported.
 fn unsupported(feature: Feature) -> Reply {
     Reply::Refused(Refusal::Unsupported { feature })
 }
 
-#[test]
-fn features_are_printed(rt: HostRuntime) -> Result<(), Fail> {
-    let alloc = rt.alloc();
+/// Refusals of features.
+fn features(alloc: Global) -> Result<Vec<Reply>, NoMemory> {
     let mut replies = Vec::new(alloc);
     replies.push(unsupported(Feature::Protocol {
         reader: 3,
@@ -138,9 +139,19 @@ fn features_are_printed(rt: HostRuntime) -> Result<(), Fail> {
             kind: LogFaultKind::Unsupported(Feature::DeletionVector),
         },
     }))?;
-    let text = printed(alloc, replies)?;
-    let wanted =
-        b"table 1 created 0\na 1 refused 13 unsupported protocol 3 8\na 2 refused 13 unsupported feature columnMapping\na 3 refused 13 unsupported codec -1\na 4 refused 12 bad object x line 1 unsupported deletion vector\n";
-    assert!(rt; text.as_slice() == wanted.as_slice());
+    Ok(replies)
+}
+
+const FEATURES: &[u8] =
+    b"table 1 created 0\na 1 refused 13 unsupported protocol 3 8\na 2 refused 13 unsupported feature columnMapping\na 3 refused 13 unsupported codec -1\na 4 refused 12 bad object x line 1 unsupported deletion vector\n";
+
+#[test]
+fn replies_are_printed(rt: HostRuntime) -> Result<(), Fail> {
+    let alloc = rt.alloc();
+    assert!(rt; is_printed(alloc, commit_and_rows(alloc), COMMIT_AND_ROWS)?);
+    assert!(rt; is_printed(alloc, literals(alloc), LITERALS)?);
+    assert!(rt; is_printed(alloc, refusals_of_numbers(alloc), REFUSALS_OF_NUMBERS)?);
+    assert!(rt; is_printed(alloc, refusals_with_names(alloc), REFUSALS_WITH_NAMES)?);
+    assert!(rt; is_printed(alloc, features(alloc), FEATURES)?);
     Ok(())
 }

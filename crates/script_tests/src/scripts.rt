@@ -115,27 +115,36 @@ fn names_faults_at_the_header(rt: HostRuntime) {
     assert!(rt; is_read(alloc, b"table (k long not null)\nschedule\n"));
 }
 
+/// Lines behind a header and a session `a`, and the first that is bad: of statements and sessions, and of items.
+const BEHIND: [(&str, u32, ScriptFaultKind); 18] = [
+    ("delete\n", 3, Form),
+    ("insert (1, 2)\n", 3, Form),
+    ("insert (- 1)\n", 3, Form),
+    ("insert (5a)\n", 3, Form),
+    ("insert\t(1)\n", 3, Form),
+    ("insert (9223372036854775808)", 3, Form),
+    ("insert (-9223372036854775808),(-0)\nselect 1", 4, Form),
+    ("\n# note\nselect where v > 'it''s'\n", 5, Form),
+    ("session a\n", 3, Session),
+    ("session select\n", 3, Form),
+    (
+        "session abcdefghijklmnop\nsession abcdefghijklmnopq\n",
+        4,
+        Form,
+    ),
+    ("session B\n", 3, Form),
+    ("schedule\na c\n", 4, Session),
+    ("schedule\nA\n", 4, Session),
+    ("schedule\nc a !\n", 4, Form),
+    ("schedule\na!a\n", 4, Form),
+    ("schedule\na! select\n", 4, Form),
+    ("schedule\nschedule\n", 4, Form),
+];
+
 #[test]
-fn names_faults_in_a_session(rt: HostRuntime) {
+fn names_faults_behind_a_session(rt: HostRuntime) {
     let alloc = rt.alloc();
-    for (lines, line, kind) in [
-        ("delete\n", 3, Form),
-        ("insert (1, 2)\n", 3, Form),
-        ("insert (- 1)\n", 3, Form),
-        ("insert (5a)\n", 3, Form),
-        ("insert\t(1)\n", 3, Form),
-        ("insert (9223372036854775808)", 3, Form),
-        ("insert (-9223372036854775808),(-0)\nselect 1", 4, Form),
-        ("\n# note\nselect where v > 'it''s'\n", 5, Form),
-        ("session a\n", 3, Session),
-        ("session select\n", 3, Form),
-        (
-            "session abcdefghijklmnop\nsession abcdefghijklmnopq\n",
-            4,
-            Form,
-        ),
-        ("session B\n", 3, Form),
-    ] {
+    for (lines, line, kind) in BEHIND {
         assert!(rt;
             is_refused_behind(alloc, lines.as_bytes(), line, kind),
             "{lines}"
@@ -145,23 +154,9 @@ fn names_faults_in_a_session(rt: HostRuntime) {
 }
 
 #[test]
-fn names_faults_of_items(rt: HostRuntime) {
-    let alloc = rt.alloc();
-    for (lines, line, kind) in [
-        ("schedule\na c\n", 4, Session),
-        ("schedule\nA\n", 4, Session),
-        ("schedule\nc a !\n", 4, Form),
-        ("schedule\na!a\n", 4, Form),
-        ("schedule\na! select\n", 4, Form),
-        ("schedule\nschedule\n", 4, Form),
-    ] {
-        assert!(rt;
-            is_refused_behind(alloc, lines.as_bytes(), line, kind),
-            "{lines}"
-        );
-    }
+fn reads_items(rt: HostRuntime) {
     for lines in ["schedule", "schedule\n\n# note\n", "schedule\na! a@ a\n"] {
-        assert!(rt; is_read_behind(alloc, lines.as_bytes()), "{lines}");
+        assert!(rt; is_read_behind(rt.alloc(), lines.as_bytes()), "{lines}");
     }
 }
 
