@@ -246,19 +246,22 @@ fn is_replayed(
     Ok(rows.as_str() == want)
 }
 
-/// Statements one after another, each with its calls and its reply.
-const STATEMENTS: [(What, &str); 5] = [
-    (What::Select, "|now; list; no table"),
-    (What::Table, "|now; list; now; !put 0; created"),
+/// Statements one after another, each with its number, its calls and its reply.
+const STATEMENTS: [(u32, What, &str); 5] = [
+    (1, What::Select, "|now; list; no table"),
+    (2, What::Table, "|now; list; now; !put 0; created"),
     (
+        3,
         What::Insert(&[3, 1]),
         "|now; list; get 0; put data; now; !put 1; committed 1 from 0 by 1",
     ),
     (
+        4,
         What::Insert(&[2, 1]),
         "|now; list; get 0; get 1; put data; now; !put 2; committed 2 from 1 by 1",
     ),
     (
+        5,
         What::Select,
         "|now; list; get 0; get 1; get 2; get data; get data; rows of 2 in 2 of 2: 1 1 2 3",
     ),
@@ -267,26 +270,27 @@ const STATEMENTS: [(What, &str); 5] = [
 /// Makes the statements, each with nothing kept. Whether each has its calls and its reply.
 fn are_answered(alloc: Global, world: &mut MemWorld) -> bool {
     let mut all = true;
-    let mut number: u32 = 1;
-    for (what, want) in STATEMENTS {
+    for (number, what, want) in STATEMENTS {
         all = is_answered(alloc, world, number, what, &mut None, want) && all;
-        number = number.saturating_add(1);
     }
     all
 }
 
 /// Statements that each begin with what the one before has kept: the table that it loaded, so that its own commit is
 /// got by the next one.
-const FROM_KEPT: [(What, &str); 3] = [
+const FROM_KEPT: [(u32, What, &str); 3] = [
     (
+        6,
         What::Select,
         "|now; list; get 0; get 1; get 2; get data; get data; rows of 2 in 2 of 2: 1 1 2 3",
     ),
     (
+        7,
         What::Insert(&[7]),
         "|now; list; put data; now; !put 3; committed 3 from 2 by 1",
     ),
     (
+        8,
         What::Select,
         "|now; list; get 3; get data; get data; get data; rows of 3 in 3 of 3: 1 1 2 3 7",
     ),
@@ -295,11 +299,9 @@ const FROM_KEPT: [(What, &str); 3] = [
 /// Makes these statements, where each begins with what the one before has kept.
 fn are_answered_from_kept(alloc: Global, world: &mut MemWorld) -> bool {
     let mut all = true;
-    let mut number: u32 = 6;
     let mut kept = None;
-    for (what, want) in FROM_KEPT {
+    for (number, what, want) in FROM_KEPT {
         all = is_answered(alloc, world, number, what, &mut kept, want) && all;
-        number = number.saturating_add(1);
     }
     drop(kept);
     all

@@ -16,8 +16,8 @@ fn columns_are_a_line(rt: HostRuntime) -> Result<(), Fail> {
     let text = write_columns(rt.alloc(), names.as_slice())?;
     assert!(rt; text.as_slice() == b"columns id v\n".as_slice());
     let read = read_columns(rt.alloc(), b"columns id v\n").expect(&rt, "it reads");
-    assert_eq!(rt; read.as_slice().len(), 2);
-    assert_eq!(rt; read.as_slice()[1].as_str(), "v");
+    assert!(rt; read.as_slice().len() == 2);
+    assert!(rt; read.as_slice()[1].as_str() == "v");
     Ok(())
 }
 
@@ -27,7 +27,7 @@ fn a_path_is_a_line(rt: HostRuntime) -> Result<(), Fail> {
     let text = write_add(rt.alloc(), &path)?;
     assert!(rt; text.as_slice() == b"add part-00000.parquet\n".as_slice());
     let read = read_add(rt.alloc(), b"add part-00000.parquet\n").expect(&rt, "it reads");
-    assert_eq!(rt; read.as_str(), "part-00000.parquet");
+    assert!(rt; read.as_str() == "part-00000.parquet");
     Ok(())
 }
 
@@ -42,8 +42,8 @@ fn a_row_is_a_line(rt: HostRuntime) -> Result<(), Fail> {
     let text = write_rows(rt.alloc(), &rows)?;
     assert!(rt; text.as_slice() == b"10,-9223372036854775808\n".as_slice());
     let read = read_rows(rt.alloc(), text.as_slice()).expect(&rt, "it reads");
-    assert_eq!(rt; read.len(), 1);
-    assert_eq!(rt; read.get(0).map(|row| row.len()), Some(2));
+    assert!(rt; read.len() == 1);
+    assert!(rt; read.get(0).map(|row| row.len()) == Some(2));
     Ok(())
 }
 
@@ -55,17 +55,11 @@ fn bad_row(alloc: Global, text: &[u8]) -> Option<TextFault> {
 fn bad_lines_are_named(rt: HostRuntime) -> Result<(), Fail> {
     let alloc = rt.alloc();
     assert!(rt; bad_row(alloc, b"").is_none());
-    assert_eq!(rt; bad_row(alloc, b"1\n02\n"), Some(TextFault::Line(2)));
-    assert_eq!(rt; bad_row(alloc, b"1\n-0\n"), Some(TextFault::Line(2)));
-    assert_eq!(rt; bad_row(alloc, b"1\n2"), Some(TextFault::Line(2)));
-    assert_eq!(rt;
-        bad_row(alloc, b"9223372036854775808\n"),
-        Some(TextFault::Line(1))
-    );
-    assert_eq!(rt;
-        read_columns(alloc, b"columns a\nx\n").err(),
-        Some(TextFault::Line(2))
-    );
-    assert_eq!(rt; read_add(alloc, b"").err(), Some(TextFault::Line(1)));
+    assert!(rt; bad_row(alloc, b"1\n02\n") == Some(TextFault::Line(2)));
+    assert!(rt; bad_row(alloc, b"1\n-0\n") == Some(TextFault::Line(2)));
+    assert!(rt; bad_row(alloc, b"1\n2") == Some(TextFault::Line(2)));
+    assert!(rt; bad_row(alloc, b"9223372036854775808\n") == Some(TextFault::Line(1)));
+    assert!(rt; read_columns(alloc, b"columns a\nx\n").err() == Some(TextFault::Line(2)));
+    assert!(rt; read_add(alloc, b"").err() == Some(TextFault::Line(1)));
     Ok(())
 }
