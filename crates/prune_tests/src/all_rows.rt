@@ -56,7 +56,7 @@ fn facts_of_rows(alloc: Global, schema: &Schema, pairs: &[Pair]) -> Result<FileF
 }
 
 /// How two comparisons are put together.
-#[derive(Clone, Copy, Debug, Drop)]
+#[derive(Clone, Copy, Drop)]
 enum Form {
     Both,
     Either,
