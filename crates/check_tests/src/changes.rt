@@ -354,14 +354,30 @@ fn merges_come(alloc: Global, schema: &Schema, merges: &[Merge]) -> bool {
     })
 }
 
+fn all_deletes_come(alloc: Global, schema: &Schema) -> bool {
+    deletes_come(alloc, schema, &DELETES)
+}
+
+fn all_updates_come(alloc: Global, schema: &Schema) -> bool {
+    updates_come(alloc, schema, &UPDATES)
+}
+
+fn all_selects_come(alloc: Global, schema: &Schema) -> bool {
+    selects_come(alloc, schema, &SELECTS)
+}
+
+fn all_merges_come(alloc: Global, schema: &Schema) -> bool {
+    merges_come(alloc, schema, &MERGES)
+}
+
 #[test]
 fn changes(rt: HostRuntime) -> Result<(), Fail> {
     let alloc = rt.alloc();
     let schema = schema(alloc)?;
-    let deletes = deletes_come(alloc, &schema, &DELETES);
-    let updates = updates_come(alloc, &schema, &UPDATES);
-    let selects = selects_come(alloc, &schema, &SELECTS);
-    let merges = merges_come(alloc, &schema, &MERGES);
+    let deletes = all_deletes_come(alloc, &schema);
+    let updates = all_updates_come(alloc, &schema);
+    let selects = all_selects_come(alloc, &schema);
+    let merges = all_merges_come(alloc, &schema);
     drop(schema);
     assert!(rt; deletes);
     assert!(rt; updates);
