@@ -1,15 +1,8 @@
 //! Shows what the run of a script did: its calls of the store, or the objects that it leaves.
 #![tactic(auto)]
 
-mod journal;
-mod objects;
-#[cfg(test)]
-mod tests;
-mod top;
-mod words;
-
-use crate::top::run;
 use edge_api::{StdSink, StdSource};
+use inspection::run;
 use script_runs::words_or_status;
 use std::process::ExitCode;
 

@@ -11,8 +11,8 @@ use Rattle.script_runs.specs.declared.status.Status.TheVariants.{Done, NoScript,
 use Rattle.script_runs.specs.Status.{code_of, text_of}
 use Rattle.script_runs.specs.Reading.{Stream, limit, ReadsScript, FailsToRead, Says}
 use Rattle.script_runs.specs.Running.{Ran, program_of}
-use Rattle.inspect_run.specs.Journal.{journal_text}
-use Rattle.inspect_run.specs.Words.{folder_text}
+use Rattle.inspection.specs.Journal.{journal_text}
+use Rattle.inspection.specs.Words.{folder_text}
 
 -- the script's program ran over an empty store, and these are all the calls of the store
 abbrev pub Leaves : Script → List JournalEntry → Type 0

@@ -1,7 +1,7 @@
 //! The journal of a store as it is printed.
 ghost use Rattle.std.specs.Prelude.{◌≡◌, ◌++◌, IfOk, OnOk};
 ghost use Rattle.std.specs.List.{flat_map};
-ghost use Rattle.inspect_run.specs.Journal as spec;
+ghost use Rattle.inspection.specs.Journal as spec;
 
 use edge_api::{Answer, Call, JournalEntry, Name};
 use report::Printer;

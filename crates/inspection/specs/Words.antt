@@ -1,8 +1,8 @@
 -- The words that are accepted, and what is said of others.
 use Rattle.std.specs.Prelude.{ℕ, ◌&&◌, if◌then◌else◌, List, [], ◌∷◌, Option, Some, None, codes}
 use Rattle.std.specs.Str.{bytes_eq}
-use Rattle.inspect_run.specs.declared.words.Words.{Words}
-use Rattle.inspect_run.specs.declared.words.Words.TheVariants.{Journal, Objects}
+use Rattle.inspection.specs.declared.words.Words.{Words}
+use Rattle.inspection.specs.declared.words.Words.TheVariants.{Journal, Objects}
 
 -- what the words of a command line ask for
 abbrev pub words_of : List (List ℕ) → Option Words

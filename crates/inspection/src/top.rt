@@ -4,9 +4,9 @@ ghost use Rattle.script_text.specs.Fit.{IsFit};
 ghost use Rattle.script_runs.specs.declared.status.Status.{Status as AStatus};
 ghost use Rattle.script_runs.specs.Status.{code_of, text_of};
 ghost use Rattle.script_runs.specs.Reading.{Says, FailsReading};
-ghost use Rattle.inspect_run.specs.Top.{Leaves, Runs, ShowsAs, ShowsJournal, FillsAs, FillsFolder};
-ghost use Rattle.inspect_run.specs.Words.{words_of, words_text};
-ghost use Rattle.inspect_run.specs.declared.words.Words.TheVariants as asks;
+ghost use Rattle.inspection.specs.Top.{Leaves, Runs, ShowsAs, ShowsJournal, FillsAs, FillsFolder};
+ghost use Rattle.inspection.specs.Words.{words_of, words_text};
+ghost use Rattle.inspection.specs.declared.words.Words.TheVariants as asks;
 
 use crate::journal::print_journal;
 use crate::objects::{Unwritten, write_objects};
@@ -91,8 +91,8 @@ fn fill<R: Files, S: Source>(rt: &R, alloc: Global, folder: &str, source: &mut S
 /// As `run_objects`, where the folder isn't there.
 fn run_new_objects<R: Files, S: Source, E: Sink>(
     rt: &R,
-    alloc: Global,
     folder: &str,
+    alloc: Global,
     source: &mut S,
     errors: &mut E,
 ) -> u8
@@ -120,7 +120,7 @@ pub fn run_objects<R: Files, S: Source, E: Sink>(
         say(errors, folder_text());
         return 8;
     }
-    run_new_objects(rt, alloc, folder, source, errors)
+    run_new_objects(rt, folder, alloc, source, errors)
 }
 
 /// The whole work of the program by the words of its command line. The answer is the exit status.

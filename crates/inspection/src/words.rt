@@ -1,6 +1,6 @@
 //! The words of the command line.
 ghost use Rattle.std.specs.Prelude.{◌≡◌, ◌≢◌, None, IfOk, OnErr};
-ghost use Rattle.inspect_run.specs.Words.{words_of, words_text, folder_text};
+ghost use Rattle.inspection.specs.Words.{words_of, words_text, folder_text};
 
 use row_base::{NoMemory, Text};
 
