@@ -1,12 +1,4 @@
-pub mod Numerals
 pub mod Counting
-pub mod States
-pub mod Packings
-pub mod Checksums
-pub mod Plain
-pub mod Paths
-pub mod Adds
-pub mod Rows
 pub mod Faults
-pub mod Padding
 pub mod Hybrids
+pub mod Numerals

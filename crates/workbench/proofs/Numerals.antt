@@ -7,15 +7,9 @@ use Rattle.std.specs.Char.{is_ascii_digit}
 use Rattle.std.proofs.lemmas.Bool.{cases_lt, lt-ltb, le-ltb, ltb-true, and_parts}
 use Rattle.std.proofs.lemmas.Str.{IsUtf8-from_ascii}
 use Rattle.std.proofs.lemmas.Fmt.{IsAscii-from_digits}
-use Rattle.std.proofs.lemmas.Str.Parse.{IsDigitsTest, IsNumeralModel, numerals_by_value, parse_digits}
+use Rattle.std.proofs.lemmas.Str.Parse.{parse_digits}
+use Rattle.row_base.proofs.Numerals.{by_test}
 use Rattle.workbench.specs.Words.{are_digits, number_of}
-
--- the test for digits
-tells_by_test : IsDigitsTest (λ ds. list_all is_ascii_digit ds ≡ true)
-tells_by_test = search rules
-
-pub by_test : IsNumeralModel (λ ds. list_all is_ascii_digit ds ≡ true) (digits_value 10)
-by_test = numerals_by_value (λ ds. list_all is_ascii_digit ds ≡ true) tells_by_test
 
 parts : (text : List ℕ) → are_digits text ≡ true → (0 < length text) × (list_all is_ascii_digit text ≡ true)
 parts text h =

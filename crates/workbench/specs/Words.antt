@@ -5,13 +5,18 @@ use Rattle.std.specs.List.{list_all}
 use Rattle.std.specs.Char.{is_ascii_digit}
 use Rattle.std.specs.Str.{bytes_eq}
 use Rattle.std.specs.Str.Parse.{digits_value}
-use Rattle.workbench.specs.declared.words.Kernel.{Kernel}
-use Rattle.workbench.specs.declared.words.Kernel.TheVariants.{Unpack, Pack, LogWrite, LogRead}
-use Rattle.workbench.specs.declared.words.Kernel.TheVariants as kernels
-use Rattle.workbench.specs.declared.words.Step.{Step}
-use Rattle.workbench.specs.declared.words.Step.TheVariants as steps
-use Rattle.workbench.specs.declared.words.Table.{Table}
-use Rattle.workbench.specs.declared.words.Table.TheVariants as tables
+use Rattle.format_kernels.specs.declared.kernel.Kernel.{Kernel}
+use Rattle.format_kernels.specs.declared.kernel.Kernel.TheVariants.{Unpack, Pack, LogWrite, LogRead}
+use Rattle.format_kernels.specs.declared.kernel.Kernel.TheVariants as kernels
+use Rattle.format_kernels.specs.declared.kernel.Step.{Step}
+use Rattle.format_kernels.specs.declared.kernel.Step.TheVariants as steps
+use Rattle.format_kernels.specs.declared.kernel.Table.{Table}
+use Rattle.format_kernels.specs.declared.kernel.Table.TheVariants as tables
+use Rattle.row_kernels.specs.declared.kernel.RowChange.TheVariants as changes
+use Rattle.row_kernels.specs.declared.kernel.RowKernel.{RowKernel}
+use Rattle.row_kernels.specs.declared.kernel.RowKernel.TheVariants as rows
+use Rattle.workbench.specs.declared.words.Timed.{Timed}
+use Rattle.workbench.specs.declared.words.Timed.TheVariants as timed
 use Rattle.workbench.specs.declared.words.Format.{Format}
 use Rattle.workbench.specs.declared.words.Format.TheVariants.{Hybrid, Thrift, Parquet}
 use Rattle.workbench.specs.declared.words.Command.{Command}
@@ -81,8 +86,39 @@ format_of name =
     else if bytes_eq name (codes "parquet") then Some Parquet
     else None
 
+-- `files-asked`, `files-known` and `files-keys` name the kernels over what is known of files
+abbrev pub file_kernel_of : List ℕ → Option RowKernel
+file_kernel_of name =
+    if bytes_eq name (codes "files-asked") then Some rows.Asked
+    else if bytes_eq name (codes "files-known") then Some rows.Known
+    else if bytes_eq name (codes "files-keys") then Some rows.Keys
+    else None
+
+-- `rows-made`, `rows-truth`, `rows-plain`, `rows-delete`, `rows-update` and `rows-merge` name the kernels over rows in memory
+abbrev pub row_kernel_of : List ℕ → Option RowKernel
+row_kernel_of name =
+    if bytes_eq name (codes "rows-made") then Some rows.Made
+    else if bytes_eq name (codes "rows-truth") then Some rows.Truth
+    else if bytes_eq name (codes "rows-plain") then Some rows.Plain
+    else if bytes_eq name (codes "rows-delete") then Some (rows.Change changes.Delete)
+    else if bytes_eq name (codes "rows-update") then Some (rows.Change changes.Update)
+    else if bytes_eq name (codes "rows-merge") then Some rows.Merge
+    else file_kernel_of name
+
+abbrev pub format_timed : Option Kernel → Option Timed
+format_timed (Some kernel) = Some (timed.Format kernel)
+format_timed None = None
+
+-- the kernel over rows where there is one, else that of the formats
+abbrev pub first_timed : Option RowKernel → Option Kernel → Option Timed
+first_timed (Some kernel) others = Some (timed.Rows kernel)
+first_timed None kernel = format_timed kernel
+
+abbrev pub timed_of : List ℕ → Option Timed
+timed_of name = first_timed (row_kernel_of name) (kernel_of name)
+
 -- the kernel's fault comes first
-abbrev pub time_command : Option Kernel → Option ℕ → Result Command WordsFault
+abbrev pub time_command : Option Timed → Option ℕ → Result Command WordsFault
 time_command None runs = Err faults.Kernel
 time_command (Some kernel) None = Err faults.Runs
 time_command (Some kernel) (Some runs) = Ok (Time kernel runs)
@@ -94,6 +130,6 @@ read_command None = Err faults.Format
 -- `time KERNEL N` and `read FORMAT FILE`
 abbrev pub command_of : List ℕ → List ℕ → List ℕ → Result Command WordsFault
 command_of word name last =
-    if bytes_eq word (codes "time") then time_command (kernel_of name) (number_of last)
+    if bytes_eq word (codes "time") then time_command (timed_of name) (number_of last)
     else if bytes_eq word (codes "read") then read_command (format_of name)
     else Err faults.Command

@@ -6,52 +6,13 @@ ghost use Rattle.std.specs.List.{list_all};
 ghost use Rattle.std.specs.Char.{is_ascii_digit};
 ghost use Rattle.workbench.specs.Words as spec;
 
+use format_kernels::{Kernel, Step, Table};
+use row_kernels::{RowChange, RowKernel};
 use std::str;
 use thiserror::Error;
 
 /// The widest values, in bits.
 const MOST_BITS: u32 = 32;
-
-/// How far a kernel goes with the rows of a table; each step does the ones before it too.
-#[derive(Clone, Copy, Debug, Drop, PartialEq, Eq)]
-pub enum Step {
-    /// `rows`: they are made.
-    Rows,
-    /// `write`: their file is made.
-    Write,
-    /// `copy`: the bytes of the file are copied.
-    Copy,
-    /// `read`: the file is read.
-    Read,
-}
-
-/// A table whose files are timed.
-#[derive(Clone, Copy, Debug, Drop, PartialEq, Eq)]
-pub enum Table {
-    /// `longs`: two columns of longs.
-    Longs,
-    /// `words`: a column of a hundred texts.
-    Words,
-    /// `texts`: a column of texts without repeats.
-    Texts,
-    /// `booleans`: a column of booleans and nulls.
-    Booleans,
-}
-
-/// What is timed.
-#[derive(Clone, Copy, Debug, Drop, PartialEq, Eq)]
-pub enum Kernel {
-    /// `unpack-W`: the unpacking of values of so many bits.
-    Unpack(u8),
-    /// `pack-W`: their packing.
-    Pack(u8),
-    /// `log-write`: the writing of a commit.
-    LogWrite,
-    /// `log-read`: its writing and reading.
-    LogRead,
-    /// `parquet-STEP-TABLE`: the steps of a table's file.
-    Parquet(Step, Table),
-}
 
 /// What a file is to be read as.
 #[derive(Clone, Copy, Debug, Drop, PartialEq, Eq)]
@@ -64,11 +25,20 @@ pub enum Format {
     Parquet,
 }
 
+/// What is timed.
+#[derive(Clone, Copy, Debug, Drop, PartialEq, Eq)]
+pub enum Timed {
+    /// A kernel of the formats.
+    Format(Kernel),
+    /// A kernel over rows in memory, or over what is known of files.
+    Rows(RowKernel),
+}
+
 /// What the program is asked to do.
 #[derive(Clone, Copy, Debug, Drop, PartialEq, Eq)]
 pub enum Command {
-    /// To run a kernel so many times, or over so many rows or added files.
-    Time(Kernel, u32),
+    /// To run a kernel so many times, or over so many rows, keys or added files.
+    Time(Timed, u32),
     /// To read a file.
     Read(Format),
 }
@@ -83,9 +53,9 @@ pub enum WordsFault {
     #[error("unknown command: use time or read")]
     Command,
     /// No kernel has this name.
-    #[error("unknown kernel: use unpack-W, pack-W, log-write, log-read or parquet-STEP-TABLE")]
+    #[error("unknown kernel: use unpack-W, pack-W, log-write, log-read, parquet-STEP-TABLE, rows-WORK or files-WORK")]
     Kernel,
-    /// No number of runs, rows or added files in decimal digits, or one of more than 32 bits.
+    /// No number of runs, rows, keys or added files in decimal digits, or one of more than 32 bits.
     #[error("the last word is no number from 0 to 4294967295")]
     Runs,
     /// No format has this name.
@@ -98,7 +68,7 @@ pub fn command_of(word: &str, name: &str, last: &str) -> Result<Command, WordsFa
     ensures { result ≡ spec.command_of word.now name.now last.now }
 {
     match word {
-        "time" => time_command(kernel_of(name), number_of(last.as_bytes())),
+        "time" => time_command(timed_of(name), number_of(last.as_bytes())),
         "read" => match format_of(name) {
             Some(format) => Ok(Command::Read(format)),
             None => Err(WordsFault::Format),
@@ -108,15 +78,62 @@ pub fn command_of(word: &str, name: &str, last: &str) -> Result<Command, WordsFa
 }
 
 /// The command of a kernel and its runs.
-fn time_command(kernel: Option<Kernel>, runs: Option<u32>) -> Result<Command, WordsFault>
-    ensures { result ≡ spec.time_command kernel runs }
+fn time_command(timed: Option<Timed>, runs: Option<u32>) -> Result<Command, WordsFault>
+    ensures { result ≡ spec.time_command timed runs }
 {
-    let kernel = kernel.ok_or(WordsFault::Kernel)?;
+    let timed = timed.ok_or(WordsFault::Kernel)?;
     let runs = runs.ok_or(WordsFault::Runs)?;
-    Ok(Command::Time(kernel, runs))
+    Ok(Command::Time(timed, runs))
 }
 
-/// The kernel of a name.
+/// What a name has timed.
+fn timed_of(name: &str) -> Option<Timed>
+    ensures { result ≡ spec.timed_of name.now }
+{
+    match row_kernel_of(name) {
+        Some(kernel) => Some(Timed::Rows(kernel)),
+        None => format_timed(kernel_of(name)),
+    }
+}
+
+/// What a kernel of the formats has timed.
+fn format_timed(kernel: Option<Kernel>) -> Option<Timed>
+    ensures { result ≡ spec.format_timed kernel }
+{
+    match kernel {
+        Some(kernel) => Some(Timed::Format(kernel)),
+        None => None,
+    }
+}
+
+/// The kernel over rows or over what is known of files of a name.
+fn row_kernel_of(name: &str) -> Option<RowKernel>
+    ensures { result ≡ spec.row_kernel_of name.now }
+{
+    match name {
+        "rows-made" => Some(RowKernel::Made),
+        "rows-truth" => Some(RowKernel::Truth),
+        "rows-plain" => Some(RowKernel::Plain),
+        "rows-delete" => Some(RowKernel::Change(RowChange::Delete)),
+        "rows-update" => Some(RowKernel::Change(RowChange::Update)),
+        "rows-merge" => Some(RowKernel::Merge),
+        _ => file_kernel_of(name),
+    }
+}
+
+/// The kernel over what is known of files of a name.
+fn file_kernel_of(name: &str) -> Option<RowKernel>
+    ensures { result ≡ spec.file_kernel_of name.now }
+{
+    match name {
+        "files-asked" => Some(RowKernel::Asked),
+        "files-known" => Some(RowKernel::Known),
+        "files-keys" => Some(RowKernel::Keys),
+        _ => None,
+    }
+}
+
+/// The kernel of the formats of a name.
 fn kernel_of(name: &str) -> Option<Kernel>
     ensures { result ≡ spec.kernel_of name.now }
 {

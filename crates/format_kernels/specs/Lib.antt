@@ -1,0 +1,4 @@
+pub mod Commits
+pub mod Register
+pub mod Kernels
+pub mod Tables

@@ -1,0 +1,3 @@
+pub mod Widths
+pub mod Counts
+pub mod Known

@@ -1,0 +1,4 @@
+pub mod Rows
+pub mod Scopes
+pub mod Files
+pub mod Kernels

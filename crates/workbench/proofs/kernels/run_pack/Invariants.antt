@@ -1,6 +1,0 @@
-use Rattle.std.proofs.Common.{◌≡◌}
-use Rattle.workbench.specs.Kernels.{checksum_of, packed}
-use Rattle.workbench.proofs.kernels.run_pack.Given as goal
-
-abbrev pub invariant-loop-turn : goal.invariant-loop-turn
-invariant-loop-turn l = l.sum ≡ checksum_of (packed l.width l.values.items) l.turn
