@@ -130,7 +130,7 @@ place_of_kind columns k c name =
     found_in columns c >>= λ p. if same_kind k p.1 then Ok p.0 else Err (fault.Kind name)
 
 -- arithmetic makes longs and integers alone
-abbrev pub number_kind : Kind → List ℕ → Result (Unit {0}) BindFault
+unfoldable pub number_kind : Kind → List ℕ → Result (Unit {0}) BindFault
 number_kind kind.Long name = Ok tt
 number_kind kind.Integer name = Ok tt
 number_kind k name = Err (fault.Kind name)

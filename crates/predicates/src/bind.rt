@@ -197,6 +197,16 @@ fn bound_keys(
     })
 }
 
+/// A part that was bound, on the heap.
+pub(crate) fn boxed<T: Drop>(
+    alloc: Global,
+    part: Result<T, BindFault>,
+) -> Result<Boxed<T>, BindFault>
+    ensures { Reads is_memory result part }
+{
+    Ok(Boxed::new(alloc, part?)?)
+}
+
 /// The predicate over the places of these columns, or the first fault from the left.
 fn bound(alloc: Global, pred: &Pred<Text>, columns: &[Column]) -> Result<Pred<u32>, BindFault>
     requires { length columns.now < 65 }
@@ -212,18 +222,18 @@ fn bound(alloc: Global, pred: &Pred<Text>, columns: &[Column]) -> Result<Pred<u3
             Ok(Pred::IsNull { column: place })
         }
         Pred::Both(left, right) => {
-            let left = bound(alloc, left.get(), columns)?;
-            let right = bound(alloc, right.get(), columns)?;
-            Ok(Pred::Both(Boxed::new(alloc, left)?, Boxed::new(alloc, right)?))
+            let left = boxed(alloc, bound(alloc, left.get(), columns))?;
+            let right = boxed(alloc, bound(alloc, right.get(), columns))?;
+            Ok(Pred::Both(left, right))
         }
         Pred::Either(left, right) => {
-            let left = bound(alloc, left.get(), columns)?;
-            let right = bound(alloc, right.get(), columns)?;
-            Ok(Pred::Either(Boxed::new(alloc, left)?, Boxed::new(alloc, right)?))
+            let left = boxed(alloc, bound(alloc, left.get(), columns))?;
+            let right = boxed(alloc, bound(alloc, right.get(), columns))?;
+            Ok(Pred::Either(left, right))
         }
         Pred::Negation(inner) => {
-            let inner = bound(alloc, inner.get(), columns)?;
-            Ok(Pred::Negation(Boxed::new(alloc, inner)?))
+            let inner = boxed(alloc, bound(alloc, inner.get(), columns))?;
+            Ok(Pred::Negation(inner))
         }
         Pred::Keys {
             columns: names,

@@ -4,10 +4,9 @@ ghost use Rattle.row_base.specs.Faults.{Reads};
 ghost use Rattle.predicates.specs.Values.{is_expr_bound};
 ghost use Rattle.predicates.specs.Binding.{is_memory, place_of_kind, number_kind, bound_expr_in};
 
-use crate::bind::{found, literal};
+use crate::bind::{boxed, found, literal};
 use crate::{BindFault, Expr};
 use row_base::{Column, Kind, Schema, Text};
-use sqlite_items::Boxed;
 use std::alloc::Global;
 
 /// The place of the column of a name, which is of this kind.
@@ -25,6 +24,7 @@ fn place(columns: &[Column], kind: Kind, column: &Text, name: &Text) -> Result<u
 }
 
 /// That arithmetic makes values of this kind.
+#[tactic(auto, unfolding(crate::specs::Binding::number_kind))]
 fn number(kind: Kind, name: &Text) -> Result<(), BindFault>
     ensures { Reads is_memory result (number_kind kind name.now) }
 {
@@ -51,22 +51,22 @@ fn bound(
         Expr::SourceCell(column) => Ok(Expr::SourceCell(place(columns, kind, column, name)?)),
         Expr::Literal(datum) => Ok(Expr::Literal(literal(kind, datum, name)?)),
         Expr::Plus(left, right) => {
-            let left = bound(alloc, left.get(), columns, kind, name)?;
+            let left = boxed(alloc, bound(alloc, left.get(), columns, kind, name))?;
             number(kind, name)?;
-            let right = bound(alloc, right.get(), columns, kind, name)?;
-            Ok(Expr::Plus(Boxed::new(alloc, left)?, Boxed::new(alloc, right)?))
+            let right = boxed(alloc, bound(alloc, right.get(), columns, kind, name))?;
+            Ok(Expr::Plus(left, right))
         }
         Expr::Minus(left, right) => {
-            let left = bound(alloc, left.get(), columns, kind, name)?;
+            let left = boxed(alloc, bound(alloc, left.get(), columns, kind, name))?;
             number(kind, name)?;
-            let right = bound(alloc, right.get(), columns, kind, name)?;
-            Ok(Expr::Minus(Boxed::new(alloc, left)?, Boxed::new(alloc, right)?))
+            let right = boxed(alloc, bound(alloc, right.get(), columns, kind, name))?;
+            Ok(Expr::Minus(left, right))
         }
         Expr::Times(left, right) => {
-            let left = bound(alloc, left.get(), columns, kind, name)?;
+            let left = boxed(alloc, bound(alloc, left.get(), columns, kind, name))?;
             number(kind, name)?;
-            let right = bound(alloc, right.get(), columns, kind, name)?;
-            Ok(Expr::Times(Boxed::new(alloc, left)?, Boxed::new(alloc, right)?))
+            let right = boxed(alloc, bound(alloc, right.get(), columns, kind, name))?;
+            Ok(Expr::Times(left, right))
         }
     }
 }

@@ -1,5 +1,5 @@
 //! Copies of predicates and expressions.
-ghost use Rattle.std.specs.Prelude.{◌≡◌, IfOk};
+ghost use Rattle.std.specs.Prelude.{◌≡◌, Ok, IfOk};
 
 use crate::{Expr, Operand, Pred};
 use row_base::{Items, NoMemory, Text};
@@ -37,6 +37,13 @@ fn copy_columns<C: ColumnKey>(alloc: Global, columns: &[C]) -> Result<Items<C>, 
     Ok(Items::from_vec(copies))
 }
 
+/// A part that was copied, on the heap.
+fn boxed<T: Drop>(alloc: Global, part: Result<T, NoMemory>) -> Result<Boxed<T>, NoMemory>
+    ensures { IfOk result (λ b. part ≡ Ok b) }
+{
+    Ok(Boxed::new(alloc, part?)?)
+}
+
 impl<C: ColumnKey> Operand<C> {
     /// An equal right side. The bytes of texts are shared.
     pub fn copy(&self) -> Result<Operand<C>, NoMemory>
@@ -66,18 +73,18 @@ impl<C: ColumnKey> Pred<C> {
                 column: column.copy()?,
             }),
             Pred::Both(left, right) => {
-                let left = left.get().copy(alloc)?;
-                let right = right.get().copy(alloc)?;
-                Ok(Pred::Both(Boxed::new(alloc, left)?, Boxed::new(alloc, right)?))
+                let left = boxed(alloc, left.get().copy(alloc))?;
+                let right = boxed(alloc, right.get().copy(alloc))?;
+                Ok(Pred::Both(left, right))
             }
             Pred::Either(left, right) => {
-                let left = left.get().copy(alloc)?;
-                let right = right.get().copy(alloc)?;
-                Ok(Pred::Either(Boxed::new(alloc, left)?, Boxed::new(alloc, right)?))
+                let left = boxed(alloc, left.get().copy(alloc))?;
+                let right = boxed(alloc, right.get().copy(alloc))?;
+                Ok(Pred::Either(left, right))
             }
             Pred::Negation(inner) => {
-                let inner = inner.get().copy(alloc)?;
-                Ok(Pred::Negation(Boxed::new(alloc, inner)?))
+                let inner = boxed(alloc, inner.get().copy(alloc))?;
+                Ok(Pred::Negation(inner))
             }
             Pred::Keys { columns, rows } => Ok(Pred::Keys {
                 columns: copy_columns(alloc, columns.as_slice())?,
@@ -97,19 +104,19 @@ impl<C: ColumnKey> Expr<C> {
             Expr::SourceCell(column) => Ok(Expr::SourceCell(column.copy()?)),
             Expr::Literal(datum) => Ok(Expr::Literal(datum.copy()?)),
             Expr::Plus(left, right) => {
-                let left = left.get().copy(alloc)?;
-                let right = right.get().copy(alloc)?;
-                Ok(Expr::Plus(Boxed::new(alloc, left)?, Boxed::new(alloc, right)?))
+                let left = boxed(alloc, left.get().copy(alloc))?;
+                let right = boxed(alloc, right.get().copy(alloc))?;
+                Ok(Expr::Plus(left, right))
             }
             Expr::Minus(left, right) => {
-                let left = left.get().copy(alloc)?;
-                let right = right.get().copy(alloc)?;
-                Ok(Expr::Minus(Boxed::new(alloc, left)?, Boxed::new(alloc, right)?))
+                let left = boxed(alloc, left.get().copy(alloc))?;
+                let right = boxed(alloc, right.get().copy(alloc))?;
+                Ok(Expr::Minus(left, right))
             }
             Expr::Times(left, right) => {
-                let left = left.get().copy(alloc)?;
-                let right = right.get().copy(alloc)?;
-                Ok(Expr::Times(Boxed::new(alloc, left)?, Boxed::new(alloc, right)?))
+                let left = boxed(alloc, left.get().copy(alloc))?;
+                let right = boxed(alloc, right.get().copy(alloc))?;
+                Ok(Expr::Times(left, right))
             }
         }
     }

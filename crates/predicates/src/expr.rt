@@ -43,7 +43,7 @@ impl From<NoMemory> for ExprFault {
 }
 
 /// How two numbers make one.
-#[derive(Clone, Copy, Debug, Drop)]
+#[derive(Clone, Copy, Drop)]
 enum Arithmetic {
     Plus,
     Minus,
