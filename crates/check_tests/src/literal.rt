@@ -1,7 +1,8 @@
-//! Literal rows for `id long not null, v long, n integer, s string`, partitioned by `s`.
+//! Literal rows for `id long not null, v long, n integer, s string`, partitioned by `s`, of inserts and of merges.
 use crate::parts::{Literal, ONE, WIDE, datum, schema};
-use row_base::{Datum, NoMemory, RowFault, Rows, Schema};
-use statement_checks::{RowsFault, literal_rows};
+use op_types::{Change, MergeOp, MergeSpec};
+use row_base::{Datum, Items, NoMemory, RowFault, Rows, Schema};
+use statement_checks::{RowsFault, literal_rows, settled_merge};
 use std::alloc::Global;
 use std::test::Fail;
 
@@ -48,15 +49,14 @@ fn refused(row: &[Datum], fault: RowFault) -> Ending {
     }
 }
 
-fn end_seen(taken_rows: &Result<Rows, RowsFault>) -> Ending {
-    match taken_rows {
-        Ok(rows) => taken(rows),
-        Err(RowsFault::Row { row, fault }) => refused(row.as_slice(), *fault),
-        Err(RowsFault::NoMemory) => Ending::Other,
+fn wrong(fault: &RowsFault) -> Ending {
+    match fault {
+        RowsFault::Row { row, fault } => refused(row.as_slice(), *fault),
+        RowsFault::NoMemory => Ending::Other,
     }
 }
 
-/// What two rows come to.
+/// What two rows of an insert come to.
 fn end_of(
     alloc: Global,
     schema: &Schema,
@@ -66,8 +66,41 @@ fn end_of(
     let rows = rows_of(alloc, first, second)?;
     let literal = literal_rows(alloc, schema, &rows);
     drop(rows);
-    let end = end_seen(&literal);
+    let end = match &literal {
+        Ok(rows) => taken(rows),
+        Err(fault) => wrong(fault),
+    };
     drop(literal);
+    Ok(end)
+}
+
+/// `merge key (n) using .. when matched then delete`, with these two rows.
+fn merge_of(alloc: Global, first: &[Literal], second: &[Literal]) -> Result<MergeOp, NoMemory> {
+    let keys = Items::from_vec(Vec::from_slice(alloc, &[2u32])?);
+    let source = rows_of(alloc, first, second)?;
+    Ok(MergeSpec {
+        keys,
+        source,
+        matched: Some(Change::Delete),
+        insert: false,
+        by_source: None,
+    })
+}
+
+/// What two rows of a merge come to, which adds none.
+fn merge_end(
+    alloc: Global,
+    schema: &Schema,
+    first: &[Literal],
+    second: &[Literal],
+) -> Result<Ending, NoMemory> {
+    let merge = merge_of(alloc, first, second)?;
+    let settled = settled_merge(alloc, schema, merge);
+    let end = match &settled {
+        Ok(merge) => taken(&merge.source),
+        Err(fault) => wrong(fault),
+    };
+    drop(settled);
     Ok(end)
 }
 
@@ -156,10 +189,28 @@ fn rows_come(alloc: Global, schema: &Schema, rows: &[Case]) -> Result<bool, NoMe
     Ok(true)
 }
 
+fn merges_come(alloc: Global, schema: &Schema, rows: &[Case]) -> Result<bool, NoMemory> {
+    for (first, second, ending) in rows {
+        if merge_end(alloc, schema, first, second)? != *ending {
+            return Ok(false);
+        }
+    }
+    Ok(true)
+}
+
 #[test]
 fn literal_rows_fit(rt: HostRuntime) -> Result<(), Fail> {
     let schema = schema(rt.alloc())?;
     let come = matches!(rows_come(rt.alloc(), &schema, &ROWS), Ok(true));
+    drop(schema);
+    assert!(rt; come);
+    Ok(())
+}
+
+#[test]
+fn rows_of_merges_fit(rt: HostRuntime) -> Result<(), Fail> {
+    let schema = schema(rt.alloc())?;
+    let come = matches!(merges_come(rt.alloc(), &schema, &ROWS), Ok(true));
     drop(schema);
     assert!(rt; come);
     Ok(())

@@ -2,7 +2,7 @@ pub mod Bagged
 mod Found
 pub mod Gathering
 pub mod Lesser
-mod Split
+pub mod Split
 pub mod Told
 mod Together
 pub mod Untouched

@@ -1,6 +1,6 @@
 -- A file more of those that are gone over.
 use Rattle.std.proofs.Common.{◌≡◌, ℕ, ◌+◌, ◌<◌, Bool, true, false, cond, ◌&&◌, List, [], ◌∷◌, ◌++◌, length, get_or, drop, map, refl, sym, ap, ◌∙◌, append_assoc}
-use Rattle.std.specs.Prelude.{Option, None, filter, if◌then◌else◌}
+use Rattle.std.specs.Prelude.{Option, filter, if◌then◌else◌}
 use Rattle.std.specs.List.{list_all, list_any}
 use Rattle.std.proofs.lemmas.List.{at_drop_more}
 use Rattle.row_base.specs.declared.row.Datum.{Datum}
@@ -10,8 +10,9 @@ use Rattle.dml_ops.specs.Outcomes.{Outcome, lesser, rows_of, least_of}
 use Rattle.dml_ops.proofs.Bagged.{rows_of-append, least_of-append}
 use Rattle.dml_ops.proofs.Lesser.{lesser_assoc, lesser_none}
 use Rattle.merge_op.specs.declared.keys.Found.{Found}
+use Rattle.merge_op.specs.Found.{met_by}
 use Rattle.merge_op.specs.Merges.{rows_in}
-use Rattle.merge_op.proofs.Keyings.{any_append, forget_step}
+use Rattle.merge_op.proofs.Keyings.{any_append, met_step}
 
 abbrev Row : Type 0
 Row = List Datum
@@ -71,17 +72,17 @@ module _ (t : ScannedFile → Bool) (file : ScannedFile) (left rest : List Scann
         by true = sym (least_of-append f file.rows (rows_in (filter t rest)))
         by false = lesser_none (least_of f (rows_in (filter t rest)))
 
--- keys are taken out of a map, of which this is what stands under one of them
-pub forget_row : (test : Row → Bool) (row : Row) (left rest : List Row) (before after : Option Found) (total : Option Found) → left ≡ row ∷ rest
-    → after ≡ (if test row then None else before) → (if list_any test left then None else before) ≡ total → (if list_any test rest then None else after) ≡ total
-forget_row test row left rest before after total at put so_far =
-    ap (λ (o : Option Found). if list_any test rest then None else o) put ∙ forget_step (list_any test rest) (test row) before
-    ∙ ap (λ (l : List Row). if list_any test l then None else before) (sym at) ∙ so_far
+-- keys are met, of which this is what stands under one
+pub met_row : (test : Row → Bool) (row : Row) (left rest : List Row) (before after : Option Found) (total : Option Found) → left ≡ row ∷ rest
+    → after ≡ met_by (test row) before → met_by (list_any test left) before ≡ total → met_by (list_any test rest) after ≡ total
+met_row test row left rest before after total at put so_far =
+    ap (λ (o : Option Found). met_by (list_any test rest) o) put ∙ met_step (list_any test rest) (test row) before
+    ∙ ap (λ (l : List Row). met_by (list_any test l) before) (sym at) ∙ so_far
 
-pub forget_file : (test : Row → Bool) (file : ScannedFile) (left rest : List ScannedFile) (before after : Option Found) (total : Option Found) → left ≡ file ∷ rest
-    → after ≡ (if list_any test file.rows then None else before) → (if list_any test (rows_in left) then None else before) ≡ total
-    → (if list_any test (rows_in rest) then None else after) ≡ total
-forget_file test file left rest before after total at put so_far =
-    ap (λ (o : Option Found). if list_any test (rows_in rest) then None else o) put ∙ forget_step (list_any test (rows_in rest)) (list_any test file.rows) before
-    ∙ ap (λ (b : Bool). if b then None else before) (sym (any_append test file.rows (rows_in rest)))
-    ∙ ap (λ (l : List ScannedFile). if list_any test (rows_in l) then None else before) (sym at) ∙ so_far
+pub met_file : (test : Row → Bool) (file : ScannedFile) (left rest : List ScannedFile) (before after : Option Found) (total : Option Found) → left ≡ file ∷ rest
+    → after ≡ met_by (list_any test file.rows) before → met_by (list_any test (rows_in left)) before ≡ total
+    → met_by (list_any test (rows_in rest)) after ≡ total
+met_file test file left rest before after total at put so_far =
+    ap (λ (o : Option Found). met_by (list_any test (rows_in rest)) o) put ∙ met_step (list_any test (rows_in rest)) (list_any test file.rows) before
+    ∙ ap (λ (b : Bool). met_by b before) (sym (any_append test file.rows (rows_in rest)))
+    ∙ ap (λ (l : List ScannedFile). met_by (list_any test (rows_in l)) before) (sym at) ∙ so_far

@@ -11,7 +11,7 @@ use Rattle.row_base.proofs.RowOrder.{row_decides}
 use Rattle.op_types.specs.declared.bound.MergeSpec.{MergeSpec}
 use Rattle.op_types.specs.Bound.{is_merge_bound}
 use Rattle.merge_op.specs.declared.keys.Found.{Found}
-use Rattle.merge_op.specs.Found.{found_view, found_under, with_row, IsKeyed, has_key, is_left}
+use Rattle.merge_op.specs.Found.{found_view, found_under, with_row, IsKeyed, NoneMet, is_met, met_by, has_key, is_left}
 use Rattle.merge_op.specs.Matches.{is_match, matches, unmatched, key_data, has_null}
 use Rattle.merge_op.specs.Merges.{first_of, match_of}
 use Rattle.merge_op.proofs.Widths.{source_wide}
@@ -66,6 +66,14 @@ keyed_row keys row key left rest source m n f e at updates made before q =
     (made ∙ ap (λ (k : Row). with_row (found_view (get row_cmp m k)) row) e)
     (λ p. ap (λ (l : List Row). with_all (found_view (get row_cmp m p)) (filter (λ s. row_eq (key_data keys s) p) l)) (sym at) ∙ before p) q
 
+-- one that no row of the table has
+pub unmet_row : (row : Row) (m n : BTreeMap Row Found) (f : Found) → f.met ≡ false → ((q : Row) → get row_cmp n q ≡ cond (row_eq row q) (Some f) (get row_cmp m q)) → NoneMet m → NoneMet n
+unmet_row row m n f none updates before q = ap is_met (updates q) ∙ by (row_eq row q)
+  where
+    by : (b : Bool) → is_met (cond b (Some f) (get row_cmp m q)) ≡ false
+    by true = none
+    by false = before q
+
 -- ---- what is found
 
 none_pass : (test : Row → Bool) (ss : List Row) → ((s : Row) → test s ≡ false) → filter test ss ≡ []
@@ -115,14 +123,25 @@ pub match_wide : (m : MergeSpec ℕ) (keyed : BTreeMap Row Found) (x : Row) (o :
     → IfSome o (λ f. length f.row.now ≡ length x)
 match_wide m keyed x o e is bound = found_wide m x o (match_found m keyed x o e is) bound
 
--- ---- what is left
+-- ---- what is met
 
--- keys are taken out
-pub forget_step : (a b : Bool) (o : Option Found) → (if a then None else (if b then None else o)) ≡ (if b || a then None else o)
-forget_step true true o = refl
-forget_step true false o = refl
-forget_step false true o = refl
-forget_step false false o = refl
+-- one more key, and further ones
+pub met_step : (a b : Bool) (o : Option Found) → met_by a (met_by b o) ≡ met_by (b || a) o
+met_step true true (Some f) = refl
+met_step true true None = refl
+met_step true false o = refl
+met_step false true o = refl
+met_step false false o = refl
+
+same_view : (b : Bool) (o : Option Found) → found_view (met_by b o) ≡ found_view o
+same_view true (Some f) = refl
+same_view true None = refl
+same_view false o = refl
+
+pub still_keyed : (keys : List ℕ) (source : List Row) (m n : BTreeMap Row Found) (test : Row → Bool) → ((q : Row) → get row_cmp n q ≡ met_by (test q) (get row_cmp m q)) → IsKeyed keys source m → IsKeyed keys source n
+still_keyed keys source m n test met keyed q = ap found_view (met q) ∙ same_view (test q) (get row_cmp m q) ∙ keyed q
+
+-- ---- what is left
 
 pub any_append : (test : Row → Bool) (xs ys : List Row) → list_any test (xs ++ ys) ≡ (list_any test xs || list_any test ys)
 any_append test [] ys = refl
@@ -161,17 +180,17 @@ viewed : (o : Option Found) → is_some (found_view o) ≡ is_some o
 viewed (Some f) = refl
 viewed None = refl
 
-module _ (keys : List ℕ) (source rows : List Row) (m n : BTreeMap Row Found) (keyed : IsKeyed keys source m)
-    (forgotten : (q : Row) → get row_cmp n q ≡ (if list_any (has_key keys q) rows then None else get row_cmp m q)) where
+module _ (keys : List ℕ) (source rows : List Row) (m n : BTreeMap Row Found) (keyed : IsKeyed keys source m) (unmet : NoneMet m)
+    (met : (q : Row) → get row_cmp n q ≡ met_by (list_any (has_key keys q) rows) (get row_cmp m q)) where
   one_left : (before rest : List Row) (s : Row) → source ≡ before ++ s ∷ rest → is_left keys n s ≡ not (list_any (λ x. is_match keys x s) rows)
   one_left before rest s at = elim (cases_Bool (has_null keys s)) [
     | inl e ↦
-        ap (λ (b : Bool). b || is_some (get row_cmp n (key_data keys s))) e
+        ap (λ (b : Bool). b || not (is_met (get row_cmp n (key_data keys s)))) e
         ∙ ap not (sym (none_any (λ x. is_match keys x s) (λ x. null_source keys x s e) rows))
     | inr e ↦
-        ap (λ (b : Bool). b || is_some (get row_cmp n (key_data keys s))) e
-        ∙ ap is_some (forgotten (key_data keys s))
-        ∙ by (list_any (has_key keys (key_data keys s)) rows) (get row_cmp m (key_data keys s)) stands
+        ap (λ (b : Bool). b || not (is_met (get row_cmp n (key_data keys s)))) e
+        ∙ ap (λ (o : Option Found). not (is_met o)) (met (key_data keys s))
+        ∙ ap not (by (list_any (has_key keys (key_data keys s)) rows) (get row_cmp m (key_data keys s)) stands (unmet (key_data keys s)))
         ∙ ap not (sym (any_agree (λ x. is_match keys x s) (has_key keys (key_data keys s)) (λ x. match_has keys x s) rows))
   ]
     where
@@ -184,9 +203,10 @@ module _ (keys : List ℕ) (source rows : List Row) (m n : BTreeMap Row Found) (
           ∙ ap (λ (ss : List Row). is_some (first_of (filter (λ r. row_eq (key_data keys r) (key_data keys s)) ss))) at
           ∙ there (λ r. row_eq (key_data keys r) (key_data keys s)) before rest s itself
 
-      by : (b : Bool) (o : Option Found) → is_some o ≡ true → is_some (if b then None else o) ≡ not b
-      by true o e = refl
-      by false o e = e
+      by : (b : Bool) (o : Option Found) → is_some o ≡ true → is_met o ≡ false → is_met (met_by b o) ≡ b
+      by true (Some f) e none = refl
+      by true None e none = absurd cc
+      by false o e none = none
 
   all_left : (before rest : List Row) → source ≡ before ++ rest → filter (is_left keys n) rest ≡ filter (λ s. not (list_any (λ x. is_match keys x s) rows)) rest
   all_left before [] at = refl

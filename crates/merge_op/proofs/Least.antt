@@ -35,3 +35,8 @@ file_step test file left rest before after total at put so_far =
     ∙ itself_assoc before (least_where test file.rows) (least_where test (rows_in rest))
     ∙ ap (λ (o : Option (List Datum)). lesser_by itself before o) (sym (where_append test file.rows (rows_in rest)))
     ∙ ap (λ (l : List ScannedFile). lesser_by itself before (least_where test (rows_in l))) (sym at) ∙ so_far
+
+-- rows that are those of a file
+pub rows_are : (test : List Datum → Bool) (rows same : List (List Datum)) (before after : Option (List Datum)) → rows ≡ same
+    → after ≡ lesser_by itself before (least_where test rows) → after ≡ lesser_by itself before (least_where test same)
+rows_are test rows same before after is put = put ∙ ap (λ (l : List (List Datum)). lesser_by itself before (least_where test l)) is

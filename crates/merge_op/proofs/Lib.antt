@@ -1,8 +1,10 @@
-mod Assembled
+pub mod Assembled
+mod Beside
 mod FileSteps
 mod KeyData
 pub mod Keyings
 pub mod Least
-mod Scoped
+mod Meeting
+pub mod Scoped
 mod SameBags
 pub mod Widths

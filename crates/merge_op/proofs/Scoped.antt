@@ -45,12 +45,12 @@ module _ (schema : TableSchema) (m : MergeSpec ℕ) where
   none_matches : (x : Row) → in_scope m x ≡ false → match_of m x ≡ None
   none_matches x e = ap first_of (none_kept (is_match m.keys x) m.source (neither (list_any (is_match m.keys x) m.source) (passes_by_source m.by_source x) e).0)
 
-  outside : (x : Row) → in_scope m x ≡ false → change_of m x ≡ None
+  pub outside : (x : Row) → in_scope m x ≡ false → change_of m x ≡ None
   outside x e =
       ap (change_by m x) (none_matches x e)
       ∙ not_named m.by_source x (neither (list_any (is_match m.keys x) m.source) (passes_by_source m.by_source x) e).1
 
-  stays : (x : Row) → change_of m x ≡ None → merge_step schema m x ≡ Ok (x ∷ [])
+  pub stays : (x : Row) → change_of m x ≡ None → merge_step schema m x ≡ Ok (x ∷ [])
   stays x e = ap (λ (c : Option (Change ℕ)). unwrap_or (option_map (changed_to schema x (source_of (match_of m x))) c) (Ok (x ∷ []))) e
 
   and_false : (a : Bool) → (a && false) ≡ false

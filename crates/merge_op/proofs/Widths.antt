@@ -45,9 +45,5 @@ pub files_bound : (width : ℕ) (m : MergeSpec ℕ) (files : List ScannedFile) �
     → list_all (λ f. list_all (λ r. length r == width) f.rows) files ≡ true → list_all (λ f. list_all (λ r. is_merge_bound (length r) m) f.rows) files ≡ true
 files_bound width m files bound wide = of_files (λ n. is_merge_bound n m) width files bound wide
 
-pub files_keyed : (width : ℕ) (m : MergeSpec ℕ) (files : List ScannedFile) → is_merge_bound width m ≡ true
-    → list_all (λ f. list_all (λ r. length r == width) f.rows) files ≡ true → list_all (λ f. list_all (λ r. list_all (λ c. nat_lt c (length r)) m.keys) f.rows) files ≡ true
-files_keyed width m files bound wide = of_files (λ n. list_all (λ c. nat_lt c n) m.keys) width files (keys_within width m bound) wide
-
 pub source_keyed : (width : ℕ) (m : MergeSpec ℕ) → is_merge_bound width m ≡ true → list_all (λ s. list_all (λ c. nat_lt c (length s)) m.keys) m.source ≡ true
 source_keyed width m bound = of_rows (λ n. list_all (λ c. nat_lt c n) m.keys) width m.source (keys_within width m bound) (source_wide width m bound)

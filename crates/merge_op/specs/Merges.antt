@@ -77,9 +77,13 @@ abbrev pub rows_in : List ScannedFile → List (List Datum)
 rows_in [] = []
 rows_in (f ∷ fs) = f.rows ++ rows_in fs
 
+-- a clause changes one of these rows
+abbrev pub any_changed : MergeSpec ℕ → List (List Datum) → Bool
+any_changed m rows = list_any (λ x. is_some (change_of m x)) rows
+
 -- a file with a row that a clause changes
 abbrev pub is_touched : MergeSpec ℕ → ScannedFile → Bool
-is_touched m f = list_any (λ x. is_some (change_of m x)) f.rows
+is_touched m f = any_changed m f.rows
 
 -- the rows of the source that the insert clause adds
 abbrev pub added : MergeSpec ℕ → List (List Datum) → List (List Datum)

@@ -1,24 +1,23 @@
 //! The rows of a source by their keys.
-ghost use Rattle.std.specs.Prelude.{◌≡◌, ◌<◌, ◌==◌, true, nat_lt, length, List, IfOk, IfSome, Some, option_copied};
+ghost use Rattle.std.specs.Prelude.{◌≡◌, ◌<◌, ◌==◌, true, false, nat_lt, length, List, IfOk, Some, option_copied};
 ghost use Rattle.std.specs.BTreeMap.{get};
 ghost use Rattle.std.specs.List.{list_all, list_any};
-ghost use Rattle.row_base.specs.RowOrder.{row_cmp};
+ghost use Rattle.row_base.specs.RowOrder.{row_cmp, row_eq};
+ghost use Rattle.row_base.specs.declared.row.Datum.{Datum};
 ghost use Rattle.predicates.specs.Truths;
-ghost use Rattle.op_types.specs.Bound.{is_merge_bound};
 ghost use Rattle.merge_op.specs.Matches.{key_data, has_null};
-ghost use Rattle.merge_op.specs.Merges as spec;
-ghost use Rattle.merge_op.specs.Found.{IsKeyed, found_under, found_view, with_row};
+ghost use Rattle.merge_op.specs.Found.{IsKeyed, NoneMet, found_view, is_met, met_by, with_row};
 
-use op_types::MergeOp;
 use row_base::{Datum, NoMemory, Row, Rows};
 use std::alloc::Global;
 use std::collections::BTreeMap;
 
-/// The first row of a source with a key, and whether there is another one.
+/// The first row of a source with a key, whether there is another one, and whether a row of the table has the key.
 #[derive(Clone, Copy, Drop)]
 pub struct Found<'a> {
     pub row: &'a [Datum],
     pub several: bool,
+    pub met: bool,
 }
 
 /// The rows of a source by their keys.
@@ -65,21 +64,24 @@ pub(crate) fn key_of(alloc: Global, keys: &[u32], row: &[Datum]) -> Result<Row, 
 
 /// What stands under a key once this row has come.
 fn found_with<'a>(found: Option<&Found<'a>>, row: &'a [Datum]) -> Found<'a>
-    ensures { Some (result.row.now, result.several) ≡ with_row (found_view (option_copied found.entry)) row.now }
+    ensures found { Some (result.row.now, result.several) ≡ with_row (found_view (option_copied found.entry)) row.now }
+    ensures unmet { result.met ≡ false }
 {
     match found {
         Some(first) => Found {
             row: first.row,
             several: true,
+            met: false,
         },
         None => Found {
             row,
             several: false,
+            met: false,
         },
     }
 }
 
-/// The rows of a source by their keys.
+/// The rows of a source by their keys, before a row of the table has one of them.
 #[tactic(auto, using(crate::proofs::Keyings::first_is))]
 pub(crate) fn keyed<'a>(
     alloc: Global,
@@ -87,7 +89,8 @@ pub(crate) fn keyed<'a>(
     source: &'a Rows,
 ) -> Result<Keyed<'a>, NoMemory>
     requires { list_all (λ s. list_all (λ c. nat_lt c (length s)) keys.now) source.now ≡ true }
-    ensures { IfOk result (λ m. IsKeyed keys.now source.now m) }
+    ensures keyed { IfOk result (λ m. IsKeyed keys.now source.now m) }
+    ensures unmet { IfOk result NoneMet }
 {
     let mut keyed = BTreeMap::new(alloc);
     for row in source.iter() {
@@ -98,42 +101,27 @@ pub(crate) fn keyed<'a>(
     Ok(keyed)
 }
 
-/// What stands under a key.
-pub(crate) fn under<'a>(keyed: &Keyed<'a>, key: &Row) -> Option<Found<'a>>
-    ensures { result ≡ get row_cmp keyed.now key.now }
+/// What stands under a key, which a row of the table has.
+pub(crate) fn meet<'a>(keyed: &mut Keyed<'a>, key: &Row) -> Option<Found<'a>>
+    ensures found { result ≡ get row_cmp keyed.old key.now }
+    ensures met { (q : List Datum) → get row_cmp keyed.new q ≡ met_by (row_eq key.now q) (get row_cmp keyed.old q) }
 {
-    keyed.get(key).copied()
-}
-
-/// What stands under the key of a row, where no datum of it is null.
-fn under_key<'a>(
-    alloc: Global,
-    keys: &[u32],
-    keyed: &Keyed<'a>,
-    row: &[Datum],
-) -> Result<Option<Found<'a>>, NoMemory>
-    requires { list_all (λ c. nat_lt c (length row.now)) keys.now ≡ true }
-    ensures { IfOk result (λ o. o ≡ found_under keys.now keyed.now row.now) }
-{
-    if is_null_key(keys, row) {
-        return Ok(None);
+    match keyed.get_mut(key) {
+        Some(found) => {
+            let first = *found;
+            found.met = true;
+            Some(first)
+        }
+        None => None,
     }
-    let key = key_of(alloc, keys, row)?;
-    Ok(under(keyed, &key))
 }
 
-/// The first row of the source that matches a row, and whether there is another one.
-pub(crate) fn match_of<'a>(
-    alloc: Global,
-    op: &MergeOp,
-    keyed: &Keyed<'a>,
-    row: &[Datum],
-) -> Result<Option<Found<'a>>, NoMemory>
-    requires bound { is_merge_bound (length row.now) op.now ≡ true }
-    requires keyed { IsKeyed op.now.keys op.now.source keyed.now }
-    ensures found { IfOk result (λ o. found_view o ≡ spec.match_of op.now row.now) }
-    ensures wide { IfOk result (λ o. IfSome o (λ f. length f.row.now ≡ length row.now)) }
+/// Whether a row of the table has a key.
+pub(crate) fn has_met(keyed: &Keyed<'_>, key: &Row) -> bool
+    ensures { result ≡ is_met (get row_cmp keyed.now key.now) }
 {
-    let found = under_key(alloc, op.keys.as_slice(), keyed, row)?;
-    Ok(found)
+    match keyed.get(key) {
+        Some(found) => found.met,
+        None => false,
+    }
 }

@@ -5,6 +5,7 @@ mod ambiguous;
 mod fault;
 mod keys;
 mod laws;
+mod matching;
 mod merge;
 mod outcome;
 mod unmatched;

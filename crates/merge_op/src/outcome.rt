@@ -1,15 +1,16 @@
 //! What a merge makes of rows, one by one.
-ghost use Rattle.std.specs.Prelude.{◌≡◌, ◌++◌, ◌&&◌, ◌==◌, true, length, is_some, IfOk, IfSome, OnOk, option_copied};
-ghost use Rattle.std.specs.List.{list_all, list_any};
+ghost use Rattle.std.specs.Prelude.{◌≡◌, ◌++◌, ◌&&◌, ◌==◌, true, length, is_some, IfSome, OnOk, option_copied};
+ghost use Rattle.std.specs.List.{All, list_all, list_any};
 ghost use Rattle.op_types.specs.Bound.{is_change_bound, is_by_source_bound, is_merge_bound};
 ghost use Rattle.dml_ops.specs.Outcomes.{given, wrong_of, lesser, rows_of, least_of};
-ghost use Rattle.merge_op.specs.Found.{IsKeyed, found_view};
+ghost use Rattle.merge_op.specs.Found.{IsRowMatch, found_view, rows_beside};
 ghost use Rattle.merge_op.specs.Merges as spec;
 
-use crate::keys::{Found, Keyed, match_of};
+use crate::keys::Found;
+use crate::matching::RowMatch;
 use dml_ops::{Gathered, passes, updated_row};
 use op_types::{BySource, Change, MergeOp};
-use row_base::{Datum, NoMemory, Row, Rows, Schema, cmp_rows};
+use row_base::{Datum, NoMemory, Row, Schema, cmp_rows};
 use std::alloc::Global;
 
 /// The change of the rows that no row of the source matches, where this is one of them that it names.
@@ -80,16 +81,14 @@ fn merge_row(
     alloc: Global,
     op: &MergeOp,
     schema: &Schema,
-    keyed: &Keyed<'_>,
-    row: &[Datum],
+    beside: &RowMatch<'_, '_>,
     gathered: &mut Gathered,
 ) -> Result<(), NoMemory>
-    requires bound { is_merge_bound (length row.now) op.now ≡ true }
-    requires keyed { IsKeyed op.now.keys op.now.source keyed.now }
-    ensures rows { OnOk result (gathered.new.rows ≡ gathered.old.rows ++ given (spec.merge_step schema.now op.now row.now)) }
-    ensures least { OnOk result (gathered.new.least ≡ lesser gathered.old.least (wrong_of row.now (spec.merge_step schema.now op.now row.now))) }
+    requires { IsRowMatch op.now beside.now }
+    ensures rows { OnOk result (gathered.new.rows ≡ gathered.old.rows ++ given (spec.merge_step schema.now op.now beside.now.row.now)) }
+    ensures least { OnOk result (gathered.new.least ≡ lesser gathered.old.least (wrong_of beside.now.row.now (spec.merge_step schema.now op.now beside.now.row.now))) }
 {
-    let found = match_of(alloc, op, keyed, row)?;
+    let RowMatch { row, found } = *beside;
     match change_by(op, found, row) {
         Some(change) => {
             put_changed(alloc, schema, change, row, source_of(found), gathered)?;
@@ -107,51 +106,36 @@ pub(crate) fn merge_rows(
     alloc: Global,
     op: &MergeOp,
     schema: &Schema,
-    keyed: &Keyed<'_>,
-    rows: &Rows,
+    matches: &[RowMatch<'_, '_>],
     gathered: &mut Gathered,
 ) -> Result<(), NoMemory>
-    requires bound { list_all (λ r. is_merge_bound (length r) op.now) rows.now ≡ true }
-    requires keyed { IsKeyed op.now.keys op.now.source keyed.now }
-    ensures rows { OnOk result (gathered.new.rows ≡ gathered.old.rows ++ rows_of (spec.merge_step schema.now op.now) rows.now) }
-    ensures least { OnOk result (gathered.new.least ≡ lesser gathered.old.least (least_of (spec.merge_step schema.now op.now) rows.now)) }
+    requires { All (IsRowMatch op.now) matches.now }
+    ensures rows { OnOk result (gathered.new.rows ≡ gathered.old.rows ++ rows_of (spec.merge_step schema.now op.now) (rows_beside matches.now)) }
+    ensures least { OnOk result (gathered.new.least ≡ lesser gathered.old.least (least_of (spec.merge_step schema.now op.now) (rows_beside matches.now))) }
 {
-    for row in rows.iter() {
-        merge_row(alloc, op, schema, keyed, row, gathered)?;
+    for beside in matches {
+        merge_row(alloc, op, schema, beside, gathered)?;
     }
     Ok(())
 }
 
 /// Whether a clause changes a row.
-fn is_changed(
-    alloc: Global,
-    op: &MergeOp,
-    keyed: &Keyed<'_>,
-    row: &[Datum],
-) -> Result<bool, NoMemory>
-    requires bound { is_merge_bound (length row.now) op.now ≡ true }
-    requires keyed { IsKeyed op.now.keys op.now.source keyed.now }
-    ensures { IfOk result (λ b. b ≡ is_some (spec.change_of op.now row.now)) }
+fn is_changed(op: &MergeOp, beside: &RowMatch<'_, '_>) -> bool
+    requires { IsRowMatch op.now beside.now }
+    ensures { result ≡ is_some (spec.change_of op.now beside.now.row.now) }
 {
-    let found = match_of(alloc, op, keyed, row)?;
-    Ok(change_by(op, found, row).is_some())
+    change_by(op, beside.found, beside.row).is_some()
 }
 
 /// Whether a clause changes one of these rows.
-pub(crate) fn any_changed(
-    alloc: Global,
-    op: &MergeOp,
-    keyed: &Keyed<'_>,
-    rows: &Rows,
-) -> Result<bool, NoMemory>
-    requires bound { list_all (λ r. is_merge_bound (length r) op.now) rows.now ≡ true }
-    requires keyed { IsKeyed op.now.keys op.now.source keyed.now }
-    ensures { IfOk result (λ b. b ≡ list_any (λ x. is_some (spec.change_of op.now x)) rows.now) }
+pub(crate) fn any_changed(op: &MergeOp, matches: &[RowMatch<'_, '_>]) -> bool
+    requires { All (IsRowMatch op.now) matches.now }
+    ensures { result ≡ spec.any_changed op.now (rows_beside matches.now) }
 {
-    for row in rows.iter() {
-        if is_changed(alloc, op, keyed, row)? {
-            return Ok(true);
+    for beside in matches {
+        if is_changed(op, beside) {
+            return true;
         }
     }
-    Ok(false)
+    false
 }

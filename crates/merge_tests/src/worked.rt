@@ -31,8 +31,8 @@ fn all_come(alloc: Global, clauses: Clauses, nulls: bool, samples: &[Sample]) ->
 
 const MOST: i64 = i64::MAX;
 
-/// `when matched then update set v = source.v when not matched then insert`
-const TAKES: [Sample; 4] = [
+/// `when matched then update set v = source.v`
+const TAKES_ALONE: [Sample; 1] = [
     // two rows of the source match one
     (
         &[(Some(1), Some(20)), (Some(1), Some(30))],
@@ -40,6 +40,10 @@ const TAKES: [Sample; 4] = [
         &[],
         Answer::Fails(Why::Ambiguous, (Some(1), Some(10))),
     ),
+];
+
+/// `when matched then update set v = source.v when not matched then insert`
+const TAKES: [Sample; 3] = [
     // two that match none are both added
     (
         &[(Some(4), Some(1)), (Some(4), Some(1))],
@@ -215,7 +219,8 @@ const TURNS: [Sample; 5] = [
 /// The clauses of a merge, whether `v` may be null, and samples.
 type Merge = (Matched, bool, Other, i64, bool, &'static [Sample]);
 
-const MERGES: [Merge; 6] = [
+const MERGES: [Merge; 7] = [
+    (Matched::Takes, false, Other::Stays, 0, false, &TAKES_ALONE),
     (Matched::Takes, true, Other::Stays, 0, false, &TAKES),
     (Matched::Stays, true, Other::Stays, 0, false, &INSERTS),
     (Matched::Goes, true, Other::Falls, 25, false, &ALL),

@@ -1,9 +1,10 @@
 -- Literal rows as a table takes them, or the first that doesn't fit.
-use Rattle.std.specs.Prelude.{List, [], ◌∷◌, Bool, true, false, Option, Some, None, Result, Ok, Err}
+use Rattle.std.specs.Prelude.{ℕ, List, [], ◌∷◌, Bool, true, false, Option, Some, None, Result, Ok, Err}
 use Rattle.row_base.specs.Faults.{◌>>=◌}
 use Rattle.row_base.specs.Schema.{TableSchema, settled, row_fault}
 use Rattle.row_base.specs.declared.row.Datum.{Datum}
 use Rattle.row_base.specs.declared.schema.RowFault.{RowFault}
+use Rattle.op_types.specs.declared.bound.MergeSpec.{MergeSpec}
 use Rattle.statement_checks.specs.declared.fault.RowsFault.{RowsFault}
 use Rattle.statement_checks.specs.declared.fault.RowsFault.TheVariants as fault
 
@@ -25,3 +26,9 @@ row_in schema row =
 unfoldable pub rows_in : TableSchema → List (List Datum) → Result (List (List Datum)) RowsFault
 rows_in schema [] = Ok []
 rows_in schema (r ∷ rs) = row_in schema r >>= λ x. rows_in schema rs >>= λ xs. Ok (x ∷ xs)
+
+-- a merge with the rows of its source as the table takes them
+abbrev pub merge_rows_in : TableSchema → MergeSpec ℕ → Result (MergeSpec ℕ) RowsFault
+merge_rows_in schema m =
+    rows_in schema m.source >>= λ rows.
+    Ok (record { keys = m.keys; source = rows; matched = m.matched; insert = m.insert; by_source = m.by_source })

@@ -15,7 +15,7 @@ mod table;
 
 pub use fault::RowsFault;
 pub use laws::set_values_are_read;
-pub use merge::bound_merge;
+pub use merge::{bound_merge, settled_merge};
 pub use operation::{bound_delete, bound_insert_select, bound_update};
 pub use property::{check_properties, check_setting};
 pub use rows::literal_rows;

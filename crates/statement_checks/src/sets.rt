@@ -43,8 +43,8 @@ fn bound_set(
 #[tactic(auto, unfolding(crate::specs::Operations::sets_in))]
 fn each_set(
     alloc: Global,
-    schema: &Schema,
     sets: &[SetTo<Text>],
+    schema: &Schema,
 ) -> Result<Items<SetTo<u32>>, BindFault>
     ensures read { Reads is_memory result (sets_in schema.now.columns [] sets.now) }
     ensures bound { IfOk result (λ bs. are_sets_bound (length schema.now.columns) (length schema.now.columns) bs ≡ true) }
@@ -67,7 +67,7 @@ pub(crate) fn bound_sets(
     ensures bound { IfOk result (λ bs. are_sets_bound (length schema.now.columns) (length schema.now.columns) bs ≡ true) }
     ensures plain { are_plain sets.now ≡ true → IfOk result (λ bs. are_sets_bound (length schema.now.columns) 0 bs ≡ true) }
 {
-    let bound = each_set(alloc, schema, sets)?;
+    let bound = each_set(alloc, sets, schema)?;
     Ok(bound)
 }
 
@@ -108,8 +108,8 @@ fn each_expr(
 fn narrow_exprs(
     alloc: Global,
     schema: &Schema,
-    columns: &[Column],
     exprs: &[Expr<Text>],
+    columns: &[Column],
 ) -> Result<Items<Expr<u32>>, BindFault>
     requires { length exprs.now ≡ length columns.now }
     ensures read { Reads is_memory result (exprs_for schema.now.columns columns.now exprs.now) }
@@ -130,7 +130,7 @@ pub(crate) fn bound_exprs(
 {
     let columns = schema.columns();
     if exprs.len() == columns.len() {
-        narrow_exprs(alloc, schema, columns, exprs)
+        narrow_exprs(alloc, schema, exprs, columns)
     } else {
         Err(BindFault::Count)
     }

@@ -1,9 +1,9 @@
--- The rows so far, before those that are left and stand, are those that stand; their columns are there.
+-- The rows so far, before those that are left and match no row, are those that match none; their columns are there.
 use Rattle.std.proofs.Common.{◌≡◌, ◌++◌, true, length, nat_lt}
 use Rattle.std.specs.Prelude.{filter}
 use Rattle.std.specs.List.{list_all}
 use Rattle.merge_op.specs.Found.{is_left}
-use Rattle.merge_op.proofs.unmatched.rows_left.Given as goal
+use Rattle.merge_op.proofs.unmatched.unmatched_rows.Given as goal
 
 abbrev pub invariant-loop-row : goal.invariant-loop-row
 invariant-loop-row l =

@@ -1,0 +1,5 @@
+pub mod Merges
+mod Outcomes
+pub mod RowChanges
+mod Scopes
+mod Values
