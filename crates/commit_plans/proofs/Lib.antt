@@ -1,1 +1,4 @@
-mod Wholes
+pub mod Wholes
+mod Parts
+mod Maps
+mod Stamps

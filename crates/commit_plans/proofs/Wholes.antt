@@ -1,15 +1,17 @@
 -- What is planned is whole.
-use Rattle.std.proofs.Common.{◌≡◌, ◌≤◌, ◌^◌, ℕ, Bool, true, false, ◌||◌, List, [], ◌∷◌, ◌++◌, map, Some, refl, arith}
+use Rattle.std.proofs.Common.{◌≡◌, ◌<◌, ◌^◌, ℕ, Bool, true, false, ◌||◌, List, [], ◌∷◌, ◌++◌, map, Option, Some, None, IfSome, refl, arith}
 use Rattle.std.specs.List.{list_any}
 use Rattle.std.specs.List.Sorted.{IsStrictlySortedBy}
 use Rattle.log_actions.specs.declared.action.AddFile.{AddFile}
+use Rattle.log_actions.specs.declared.action.Txn.{Txn}
 use Rattle.log_actions.specs.declared.action.Action.{Action}
 use Rattle.log_actions.specs.declared.action.Action.TheVariants as actions
-use Rattle.log_actions.specs.Twice.{is_on_path, is_twice}
-use Rattle.log_actions.specs.Whole.{AreWhole}
-use Rattle.commit_plans.specs.Plans.{info_at, next_stamp, insert_plan}
+use Rattle.log_actions.specs.Twice.{is_of_application, is_on_path, is_twice}
+use Rattle.log_actions.specs.Whole.{AreWhole, IsStamp, IsWhole}
+use Rattle.commit_plans.specs.declared.plan.CommitPlan.{CommitPlan}
+use Rattle.commit_plans.specs.Plans.{info_at, next_stamp, insert_plan, txn_actions}
 use Rattle.commit_plans.specs.Made.{made_protocol, made_metadata}
-use Rattle.commit_plans.specs.Laws.{NoneHas, AreApart, AreWholeFiles, TablePlansAreWhole, InsertPlansAreWhole, StampsRise}
+use Rattle.commit_plans.specs.Laws.{NoneHas, AreApart, AreWholeFiles, TablePlansAreWhole, InsertPlansAreWhole}
 
 pub table_is_whole : TablePlansAreWhole
 unfolding made_protocol made_metadata is_twice IsStrictlySortedBy
@@ -37,16 +39,25 @@ unfolding is_twice
 adds_are_whole earlier [] fresh whole apart = tt
 adds_are_whole earlier (f ∷ fs) fresh whole apart = (whole.0, fresh.0, adds_are_whole (earlier ++ actions.Add f ∷ []) fs (fresh_after earlier f fs fresh.1 apart.0) whole.1 apart.1)
 
-fresh_first : (info : Action) (fs : List AddFile) → ((q : List ℕ) → is_on_path q info ≡ false) → AreFresh (info ∷ []) fs
-fresh_first info [] none = tt
-fresh_first info (f ∷ fs) none = (rw (none f.path) refl, fresh_first info fs none)
+fresh_first : (earlier : List Action) (fs : List AddFile) → ((q : List ℕ) → list_any (is_on_path q) earlier ≡ false) → AreFresh earlier fs
+fresh_first earlier [] none = tt
+fresh_first earlier (f ∷ fs) none = (none f.path, fresh_first earlier fs none)
 
-pub rises : StampsRise
-rises last now = record { above = omega arith; clock = omega arith }
+stamp_is_small : (last : Option ℕ) (now : ℕ) → IfSome last (λ s. s < 2 ^ 62) → IsStamp now → IsStamp (next_stamp last now)
+stamp_is_small None now below small = small
+stamp_is_small (Some s) now below small = omega arith
 
 pub insert_is_whole : InsertPlansAreWhole
 unfolding is_twice
-insert_is_whole read last id level files now version below small whole apart =
-    let info = actions.Info (info_at (insert_plan read last id level files) now) in
-    let stamp : next_stamp (Some last) now ≤ 2 ^ 62 = omega arith in
-    ((stamp, version), refl, adds_are_whole (info ∷ []) files (fresh_first info files (λ q. refl)) whole apart)
+insert_is_whole table id level txn files last now version below small known whole apart =
+    let plan : CommitPlan = record (insert_plan table id level txn files) { last = last } in
+    ((stamp_is_small last now below small, version), refl, rest (actions.Info (info_at plan now)) txn known (λ q. refl) (λ q. refl))
+  where
+    rest : (info : Action) (txn : Option Txn) → IfSome txn (λ x. IsWhole (actions.Txn x)) → ((q : List ℕ) → is_on_path q info ≡ false) → ((q : List ℕ) → is_of_application q info ≡ false)
+        → AreWhole (info ∷ []) (txn_actions txn ++ map actions.Add files)
+    rest info None known none first = adds_are_whole (info ∷ []) files (fresh_first (info ∷ []) files (λ q. rw (none q) refl)) whole apart
+    rest info (Some t) known none first = (
+      known,
+      rw (first t.app_id) refl,
+      adds_are_whole (info ∷ actions.Txn t ∷ []) files (fresh_first (info ∷ actions.Txn t ∷ []) files (λ q. rw (none q) refl)) whole apart,
+    )

@@ -1,3 +1,5 @@
+pub mod Properties
 pub mod Plans
+pub mod Texts
 pub mod Made
 pub mod Laws

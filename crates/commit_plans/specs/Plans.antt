@@ -1,10 +1,13 @@
 -- The actions of a statement's commit, by the attempt's reading of the clock.
-use Rattle.std.specs.Prelude.{ℕ, suc, max, false, true, List, [], ◌∷◌, map, Option, Some, None, codes}
+use Rattle.std.specs.Prelude.{ℕ, suc, max, false, true, List, [], ◌∷◌, ◌++◌, map, Option, Some, None, codes}
 use Rattle.json_lines.specs.declared.map.Entry.{Entry}
 use Rattle.log_actions.specs.declared.action.AddFile.{AddFile}
 use Rattle.log_actions.specs.declared.action.CommitInfo.{CommitInfo}
+use Rattle.log_actions.specs.declared.action.Txn.{Txn}
 use Rattle.log_actions.specs.declared.action.Action.{Action}
 use Rattle.log_actions.specs.declared.action.Action.TheVariants as actions
+use Rattle.log_state.specs.Stamps.{stamp_in, stamp_after}
+use Rattle.log_state.specs.Table.{Table}
 use Rattle.table_rules.specs.declared.rules.Level.{Level}
 use Rattle.table_rules.specs.declared.rules.Level.TheVariants.{Serializable, WriteSerializable}
 use Rattle.commit_plans.specs.declared.plan.CommitPlan.{CommitPlan}
@@ -42,6 +45,15 @@ info_at plan now = record {
 abbrev pub actions_at : CommitPlan → ℕ → List Action
 actions_at plan now = actions.Info (info_at plan now) ∷ plan.changes
 
+-- the plan for the attempt behind a commit with these actions
+abbrev pub behind : CommitPlan → List Action → CommitPlan
+behind plan winner = record plan { last = Some (stamp_after plan.last (stamp_in winner)) }
+
+-- and behind several, in order of version
+abbrev pub behind_all : CommitPlan → List (List Action) → CommitPlan
+behind_all plan [] = plan
+behind_all plan (w ∷ ws) = behind_all (behind plan w) ws
+
 -- a data file that a statement adds: its path is its name, and its time the statement's start
 abbrev pub added_file : List ℕ → List (Entry (Option (List ℕ))) → ℕ → ℕ → Option (List ℕ) → AddFile
 added_file name values size start stats = record {
@@ -68,14 +80,19 @@ table_plan id start level schema partition properties = record {
   changes = actions.Protocol made_protocol ∷ actions.Meta (made_metadata id start schema partition properties) ∷ [];
 }
 
--- an insert of literal rows over a version with its stamp, by its statement's identifier, the level there and its files in order
-abbrev pub insert_plan : ℕ → ℕ → List ℕ → Level → List AddFile → CommitPlan
-insert_plan read last id level files = record {
-  read = Some read;
-  last = Some last;
+-- the transaction of an application, where there is one
+abbrev pub txn_actions : Option Txn → List Action
+txn_actions None = []
+txn_actions (Some txn) = actions.Txn txn ∷ []
+
+-- an insert of literal rows over a table, by its statement's identifier, the level there, its transaction and its files in order
+abbrev pub insert_plan : Table → List ℕ → Level → Option Txn → List AddFile → CommitPlan
+insert_plan table id level txn files = record {
+  read = table.version;
+  last = table.stamp;
   operation = Write;
   level = level;
   blind = true;
   id = id;
-  changes = map actions.Add files;
+  changes = txn_actions txn ++ map actions.Add files;
 }

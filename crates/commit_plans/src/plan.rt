@@ -1,11 +1,17 @@
 //! What a statement commits.
-ghost use Rattle.std.specs.Prelude.{◌≡◌, ◌<◌, ◌-◌, ◌^◌, ◌++◌, ◌∷◌, [], map, IfSome, IfOk, OnOk};
+ghost use Rattle.std.specs.Prelude.{◌≡◌, ◌<◌, ◌≤◌, ◌-◌, ◌^◌, ◌++◌, ◌∷◌, [], map, IfSome, IfOk, OnOk, OnErr, MatchResult};
 ghost use Rattle.log_actions.specs.declared.action.Action.TheVariants as actions;
+ghost use Rattle.log_state.specs.Stamps.{stamp_in, stamp_after};
 ghost use Rattle.commit_plans.specs.Plans as spec;
+ghost use Rattle.commit_plans.specs.Texts.{Writes, HasNoText};
 
 use crate::made::{made_metadata, made_protocol};
+use crate::stamp::{LastStamp, Stamp, next_stamp};
+use crate::text::{TextFault, text_of};
+use edge_api::Body;
 use json_lines::{TextMap, TryCopy};
-use log_actions::{Action, AddFile, CommitInfo, MetaData, Protocol};
+use log_actions::{Action, AddFile, CommitInfo, MetaData, Protocol, Txn};
+use log_state::{State, stamp_after, stamp_in};
 use row_base::{Items, NoMemory, Text};
 use std::alloc::Global;
 use table_rules::Level;
@@ -22,8 +28,8 @@ pub enum Operation {
 pub struct CommitPlan {
     /// The version that the statement read, none where it makes the table.
     pub read: Option<u64>,
-    /// The stamp of the version before the attempt, in milliseconds since 1970.
-    pub last: Option<u64>,
+    /// The stamp of the version before the attempt.
+    pub last: Option<Stamp>,
     pub operation: Operation,
     /// The isolation level of the table at the version that was read, or of the table that is made.
     pub level: Level,
@@ -55,17 +61,6 @@ fn level_text(level: Level) -> &'static str
     }
 }
 
-/// The stamp of a commit, by that of the version before and the reading of the clock.
-fn next_stamp(last: Option<u64>, now: u64) -> u64
-    requires { IfSome last (λ l. l < 2 ^ 64 - 1) }
-    ensures { result ≡ spec.next_stamp last now }
-{
-    match last {
-        None => now,
-        Some(last) => now.max(last + 1),
-    }
-}
-
 /// Appends copies of these actions.
 fn append_copies(alloc: Global, actions: &[Action], out: &mut Vec<Action>) -> Result<(), NoMemory>
     ensures { OnOk result (out.new.items ≡ out.old.items ++ actions.now) }
@@ -76,10 +71,20 @@ fn append_copies(alloc: Global, actions: &[Action], out: &mut Vec<Action>) -> Re
     Ok(())
 }
 
+/// The time of a stamp.
+fn time_of(stamp: Option<Stamp>) -> Option<u64>
+    ensures value { result ≡ stamp }
+    ensures small { IfSome result (λ s. s < 2 ^ 64 - 1) }
+{
+    match stamp {
+        Some(stamp) => Some(stamp.time()),
+        None => None,
+    }
+}
+
 impl CommitPlan {
     /// What the commit says about itself at an attempt with this reading of the clock.
     fn info_at(&self, alloc: Global, now: u64) -> Result<CommitInfo, NoMemory>
-        requires { IfSome self.now.last (λ l. l < 2 ^ 64 - 1) }
         ensures { IfOk result (λ i. i ≡ spec.info_at self.now now) }
     {
         let operation = Text::make(alloc, operation_text(self.operation))?;
@@ -98,13 +103,38 @@ impl CommitPlan {
     /// The actions of the attempt with this reading of the clock, in milliseconds since 1970. The error is want of
     /// memory.
     pub fn actions_at(&self, alloc: Global, now: u64) -> Result<Vec<Action>, NoMemory>
-        requires { IfSome self.now.last (λ l. l < 2 ^ 64 - 1) }
         ensures { IfOk result (λ v. v.items ≡ spec.actions_at self.now now) }
     {
         let mut actions = Vec::new(alloc);
         actions.push(Action::Info(self.info_at(alloc, now)?))?;
         append_copies(alloc, self.changes.as_slice(), &mut actions)?;
         Ok(actions)
+    }
+
+    /// The text of the attempt with this reading of the clock, in milliseconds since 1970.
+    pub fn body_at(&self, alloc: Global, now: u64) -> Result<Body, TextFault>
+        ensures { MatchResult result (λ text. Writes text (spec.actions_at self.now now))
+            (λ f. HasNoText f (spec.actions_at self.now now)) }
+    {
+        match self.actions_at(alloc, now) {
+            Ok(actions) => text_of(alloc, &actions),
+            Err(_) => Err(TextFault::NoMemory),
+        }
+    }
+
+    /// The plan for the next attempt, behind a commit with these actions that was there first. The error is a stamp of
+    /// this commit that none of 64 bits follows, and then nothing has changed.
+    pub fn follow(&mut self, winner: &[Action]) -> Result<(), LastStamp>
+        ensures ok { OnOk result (self.new ≡ spec.behind self.old winner.now) }
+        ensures err { OnErr result (self.new ≡ self.old) }
+        ensures last { OnErr result (2 ^ 64 - 1 ≤ stamp_after self.old.last (stamp_in winner.now)) }
+    {
+        let stamp = stamp_after(time_of(self.last), stamp_in(winner));
+        if stamp == u64::MAX {
+            return Err(LastStamp);
+        }
+        self.last = Some(Stamp::new(stamp));
+        Ok(())
     }
 }
 
@@ -144,36 +174,61 @@ fn making(alloc: Global, protocol: Protocol, meta: MetaData) -> Result<Items<Act
     Ok(Items::from_vec(changes))
 }
 
-/// The files as actions that add them, in order.
-fn adds(alloc: Global, files: Vec<AddFile>) -> Result<Vec<Action>, NoMemory>
-    ensures { IfOk result (λ v. v.items ≡ map actions.Add files.items) }
+/// Appends the actions that add these files, in order.
+fn append_adds(files: Vec<AddFile>, out: &mut Vec<Action>) -> Result<(), NoMemory>
+    ensures { OnOk result (out.new.items ≡ out.old.items ++ map actions.Add files.items) }
 {
-    let mut actions = Vec::with_capacity(alloc, files.len())?;
     for file in files {
-        actions.push(Action::Add(file))?;
+        out.push(Action::Add(file))?;
     }
-    Ok(actions)
+    Ok(())
 }
 
-/// An insert of literal rows over version `read` with its stamp `last`, by its statement's identifier, the level there
-/// and its data files in order. The error is want of memory.
+/// The actions of an insert: the transaction of an application, where there is one, and the files.
+fn inserting(
+    alloc: Global,
+    txn: Option<Txn>,
+    files: Vec<AddFile>,
+) -> Result<Items<Action>, NoMemory>
+    ensures { IfOk result (λ v. v ≡ spec.txn_actions txn ++ map actions.Add files.items) }
+{
+    let mut changes = Vec::new(alloc);
+    if let Some(txn) = txn {
+        changes.push(Action::Txn(txn))?;
+    }
+    append_adds(files, &mut changes)?;
+    Ok(Items::from_vec(changes))
+}
+
+/// The stamp of a table's version.
+fn last_stamp(table: &State) -> Option<Stamp>
+    ensures { result ≡ table.now.stamp }
+{
+    match table.stamp() {
+        Some(stamp) => Some(Stamp::new(stamp)),
+        None => None,
+    }
+}
+
+/// An insert of literal rows over a table: by its statement's identifier, the level there, the transaction that the
+/// statement names (PROTOCOL.md, "Transaction Identifiers") and its data files in order. The error is want of memory.
 pub fn insert_plan(
     alloc: Global,
-    read: u64,
-    last: u64,
+    table: &State,
     id: Text,
     level: Level,
+    txn: Option<Txn>,
     files: Vec<AddFile>,
 ) -> Result<CommitPlan, NoMemory>
-    ensures { IfOk result (λ p. p ≡ spec.insert_plan read last id level files.items) }
+    ensures { IfOk result (λ p. p ≡ spec.insert_plan table.now id level txn files.items) }
 {
     Ok(CommitPlan {
-        read: Some(read),
-        last: Some(last),
+        read: table.version(),
+        last: last_stamp(table),
         operation: Operation::Write,
         level,
         blind: true,
         id,
-        changes: Items::from_vec(adds(alloc, files)?),
+        changes: inserting(alloc, txn, files)?,
     })
 }

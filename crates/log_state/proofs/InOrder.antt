@@ -47,16 +47,16 @@ alike = record { refl = itself; symm = turned; congr = λ x y z e. ap (λ w. byt
 -- ---- elements
 
 module _ {X : Type 0} where
-  first : (x : X) (xs : List X) → Contains (x ∷ xs) x
+  pub first : (x : X) (xs : List X) → Contains (x ∷ xs) x
   first x xs = Contains-get_or (x ∷ xs) 0 x (omega arith)
 
-  later : (x y : X) (xs : List X) → Contains xs y → Contains (x ∷ xs) y
+  pub later : (x y : X) (xs : List X) → Contains xs y → Contains (x ∷ xs) y
   later x y xs h = Contains-append_right (x ∷ []) xs y h
 
-  none : (x : X) → Contains [] x → ⊥
+  pub none : (x : X) → Contains [] x → ⊥
   none x h = omega (arith, h.1)
 
-  first_or : (x y : X) (xs : List X) → Contains (x ∷ xs) y → (x ≡ y) ⊎ Contains xs y
+  pub first_or : (x y : X) (xs : List X) → Contains (x ∷ xs) y → (x ≡ y) ⊎ Contains xs y
   first_or x y xs h = by h.0 h.1 h.2
     where
       by : (k : ℕ) → k < length (x ∷ xs) → get_or (x ∷ xs) k y ≡ y → (x ≡ y) ⊎ Contains xs y
@@ -129,7 +129,7 @@ module _ {V A : Type 0} (part : V → Option A) (text : A → List ℕ) where
 -- ---- in order
 
 -- of two texts that differ the one that isn't after the other is before it
-before : (p q : List ℕ) → bytes_eq p q ≡ false → is_lt (order q p) ≡ false → order p q ≡ Less
+pub before : (p q : List ℕ) → bytes_eq p q ≡ false → is_lt (order q p) ≡ false → order p q ≡ Less
 before p q apart not_less = by (order p q) refl
   where
     by : (o : Ordering) → order p q ≡ o → o ≡ Less

@@ -1,5 +1,6 @@
-mod Newer
-mod Tables
+pub mod Newer
+pub mod Stamps
+pub mod Tables
 mod Steps
-mod Owns
-mod InOrder
+pub mod Owns
+pub mod InOrder

@@ -1,5 +1,5 @@
 -- What is kept has the text that it is kept under.
-use Rattle.std.proofs.Common.{◌≡◌, ◌≤◌, ◌^◌, ℕ, Bool, true, false, List, [], ◌∷◌, Option, Some, None, IfSome, option_and_then, if◌then◌else◌, refl, sym, ap, ◌∙◌, subst}
+use Rattle.std.proofs.Common.{◌≡◌, ◌≤◌, ◌<◌, ◌^◌, ℕ, Bool, true, false, List, [], ◌∷◌, Option, Some, None, IfSome, option_and_then, if◌then◌else◌, refl, sym, ap, ◌∙◌, subst}
 use Rattle.std.specs.Str.{bytes_eq}
 use Rattle.std.proofs.lemmas.Slice.Eq.{bytes_eq-Decides}
 use Rattle.log_actions.specs.declared.action.AddFile.{AddFile}
@@ -18,7 +18,7 @@ use Rattle.log_state.proofs.Tables.{stays_in_range}
 
 -- what holds of each that is said holds of the newest
 module _ {A : Type 0} (holds : A → Type 0) where
-  of_newer : (x y : Option A) → IfSome x holds → IfSome y holds → IfSome (newer x y) holds
+  pub of_newer : (x y : Option A) → IfSome x holds → IfSome y holds → IfSome (newer x y) holds
   of_newer x None hx hy = hx
   of_newer x (Some y) hx hy = hy
 
@@ -28,7 +28,7 @@ module _ {A : Type 0} (holds : A → Type 0) where
   of_newest said each (a ∷ more) = of_newer (said a) (newest said more) (each a) (of_newest said each more)
 
   -- what a test lets through passes it
-  if_passed : (x : A) (b : Bool) → (b ≡ true → holds x) → IfSome (if b then Some x else None) holds
+  pub if_passed : (x : A) (b : Bool) → (b ≡ true → holds x) → IfSome (if b then Some x else None) holds
   if_passed x true h = h refl
   if_passed x false h = tt
 
@@ -54,9 +54,9 @@ action_of_path path a = if_passed (IsOn path) a (is_on_path path a) (λ e. e)
 
 -- with one more commit
 pub next_state : (version stamp said : Option ℕ) (old new : Kept) (next : ℕ) (all : List Action) → IsState version stamp old → IfSome said (λ s. s ≤ 2 ^ 62) → next ≡ next_version version
-    → Keeps old all new → IsState (Some next) (Some (stamp_after stamp said)) new
-next_state version stamp said old new next all s small is k = record {
-  range = stays_in_range version stamp said next s.range small is;
+    → next < 2 ^ 21 → Keeps old all new → IsState (Some next) (Some (stamp_after stamp said)) new
+next_state version stamp said old new next all s small is few k = record {
+  range = stays_in_range version stamp said next s.range small is few;
   txn = λ app. subst (λ x. IfSome x (IsOf app)) (sym (k.txn app)) (of_newer (IsOf app) (found old.txns.entries app) (newest (txn_on app) all) (s.txn app) (of_newest (IsOf app) (txn_on app) (txn_of_app app) all));
   action = λ path. subst (λ x. IfSome x (IsOn path)) (sym (k.action path))
       (of_newer (IsOn path) (found old.actions.entries path) (newest (action_on path) all) (s.action path) (of_newest (IsOn path) (action_on path) (action_of_path path) all));

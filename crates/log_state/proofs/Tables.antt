@@ -3,21 +3,18 @@ use Rattle.std.proofs.Common.{◌≡◌, ◌≤◌, ◌<◌, ◌-◌, ◌^◌, �
 use Rattle.std.proofs.lemmas.List.{append-nil}
 use Rattle.log_actions.specs.declared.action.Action.{Action}
 use Rattle.log_state.specs.Newest.{actions_in, newer, newest, protocol_in, metadata_in, txn_on, action_on}
-use Rattle.log_state.specs.Stamps.{stamp_in, stamp_after, stamp_from}
+use Rattle.log_state.specs.Stamps.{stamp_in, stamp_after}
 use Rattle.log_state.specs.declared.kept.Kept.{Kept}
 use Rattle.log_state.specs.Kept.{Keeps, table_at}
 use Rattle.log_state.specs.Table.{Table, applied, found, txn_of, action_of, next_version, version_from, Reconciles, IsTableOf, IsApplied, IsInRange}
 use Rattle.log_state.proofs.Newer.{newest_append, newer_none}
+use Rattle.log_state.proofs.Stamps.{stamp_append}
 
-version_more : (before : Option ℕ) (commits : List (List Action)) (a : List Action) → version_from before (commits ++ a ∷ []) ≡ Some (next_version (version_from before commits))
+pub version_more : (before : Option ℕ) (commits : List (List Action)) (a : List Action) → version_from before (commits ++ a ∷ []) ≡ Some (next_version (version_from before commits))
 version_more before [] a = refl
 version_more before (c ∷ cs) a = version_more (Some (next_version before)) cs a
 
-stamp_more : (last : Option ℕ) (commits : List (List Action)) (a : List Action) → stamp_from last (commits ++ a ∷ []) ≡ Some (stamp_after (stamp_from last commits) (stamp_in a))
-stamp_more last [] a = refl
-stamp_more last (c ∷ cs) a = stamp_more (Some (stamp_after last (stamp_in c))) cs a
-
-actions_more : (commits : List (List Action)) (a : List Action) → actions_in (commits ++ a ∷ []) ≡ actions_in commits ++ a
+pub actions_more : (commits : List (List Action)) (a : List Action) → actions_in (commits ++ a ∷ []) ≡ actions_in commits ++ a
 actions_more [] a = append-nil a
 actions_more (c ∷ cs) a = ap (λ (l : List Action). c ++ l) (actions_more cs a) ∙ sym (append_assoc c (actions_in cs) a)
 
@@ -31,7 +28,7 @@ pub table_more : (commits : List (List Action)) (a : List Action) (old new : Tab
     → IsApplied old version a new → IsTableOf commits old → IsTableOf (commits ++ a ∷ []) new
 table_more commits a old new version next is t = record {
   version = is.version ∙ ap Some (next ∙ ap next_version t.version) ∙ sym (version_more None commits a);
-  stamp = is.stamp ∙ ap (λ s. Some (stamp_after s (stamp_in a))) t.stamp ∙ sym (stamp_more None commits a);
+  stamp = is.stamp ∙ ap (λ s. Some (stamp_after s (stamp_in a))) t.stamp ∙ sym (stamp_append None commits (a ∷ []));
   reconciled = record {
     protocol = newest_more protocol_in commits a old.protocol new.protocol t.reconciled.protocol is.protocol;
     meta = newest_more metadata_in commits a old.meta new.meta t.reconciled.meta is.meta;
@@ -79,14 +76,19 @@ from_nothing old now all version stamp p m ts acts k = record {
 }
 
 -- the range of a stamp
-pub stays_in_range : (version stamp said : Option ℕ) (next : ℕ) → IsInRange version stamp → IfSome said (λ s. s ≤ 2 ^ 62) → next ≡ next_version version
+pub stays_in_range : (version stamp said : Option ℕ) (next : ℕ) → IsInRange version stamp → IfSome said (λ s. s ≤ 2 ^ 62) → next ≡ next_version version → next < 2 ^ 21
     → IsInRange (Some next) (Some (stamp_after stamp said))
-stays_in_range version stamp (Some s) next range small is = omega arith
-stays_in_range version None None next range small is = omega arith
-stays_in_range None (Some s) None next range small is = absurd range
-stays_in_range (Some v) (Some s) None next range small is = omega arith
+stays_in_range version stamp (Some s) next range small is few = (omega arith, omega arith)
+stays_in_range version None None next range small is few = (omega arith, omega arith)
+stays_in_range None (Some s) None next range small is few = absurd range
+stays_in_range (Some v) (Some s) None next range small is few = let low = range.0 in (omega arith, omega arith)
+
+pub at_most : (version stamp : Option ℕ) → IsInRange version stamp → IfSome stamp (λ s. s ≤ 2 ^ 63)
+at_most version None range = tt
+at_most None (Some s) range = absurd range
+at_most (Some v) (Some s) range = range.1
 
 pub below_the_end : (version stamp : Option ℕ) (next : ℕ) → IsInRange version stamp → next ≡ next_version version → next < 2 ^ 21 → IfSome stamp (λ s. s < 2 ^ 64 - 1)
 below_the_end version None next range is few = tt
 below_the_end None (Some s) next range is few = absurd range
-below_the_end (Some v) (Some s) next range is few = omega arith
+below_the_end (Some v) (Some s) next range is few = let high = range.1 in omega arith

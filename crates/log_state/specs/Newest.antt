@@ -10,16 +10,12 @@ use Rattle.log_actions.specs.declared.action.Txn.{Txn as TxnAction}
 use Rattle.log_actions.specs.declared.action.Action.{Action}
 use Rattle.log_actions.specs.declared.action.Action.TheVariants.{Protocol, Meta, Add, Remove, Txn, Info, Checkpoint, Sidecar, Ignored}
 use Rattle.log_actions.specs.Twice.{is_on_path}
+pub use Rattle.table_files.specs.Commits.{newer}
 
 -- the actions of all these commits, in order of version and of line
 abbrev pub actions_in : List (List Action) → List Action
 actions_in [] = []
 actions_in (commit ∷ more) = commit ++ actions_in more
-
--- the newer of two, where there is a newer one
-abbrev pub newer : {A : Type 0} → Option A → Option A → Option A
-newer old None = old
-newer old (Some new) = Some new
 
 -- what the newest says of those actions that say something
 unfoldable pub newest : {A : Type 0} → (Action → Option A) → List Action → Option A

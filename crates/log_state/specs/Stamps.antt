@@ -1,5 +1,6 @@
 -- The stamp of each version, by what its commit says of itself and the stamp before.
 use Rattle.std.specs.Prelude.{ℕ, suc, ◌^◌, List, [], ◌∷◌, Option, Some, None, option_and_then, if◌then◌else◌, nat_le}
+use Rattle.std.specs.Option.{option_or}
 use Rattle.log_actions.specs.declared.action.CommitInfo.{CommitInfo}
 use Rattle.log_actions.specs.declared.action.Action.{Action}
 use Rattle.log_actions.specs.declared.action.Action.TheVariants.{Protocol, Meta, Add, Remove, Txn, Info, Checkpoint, Sidecar, Ignored}
@@ -16,15 +17,10 @@ info_in (Checkpoint c) = None
 info_in (Sidecar s) = None
 info_in Ignored = None
 
--- the first where there is one, else the other
-abbrev pub or_else : {A : Type 0} → Option A → Option A → Option A
-or_else (Some x) later = Some x
-or_else None later = later
-
 -- what a commit says about itself: of several such lines the first counts (PROTOCOL.md, "Commit Provenance Information")
 unfoldable pub first_info : List Action → Option CommitInfo
 first_info [] = None
-first_info (a ∷ more) = or_else (info_in a) (first_info more)
+first_info (a ∷ more) = option_or (info_in a) (first_info more)
 
 -- a time that counts, which is at most 2^62
 abbrev pub if_stamp : ℕ → Option ℕ
@@ -44,3 +40,8 @@ stamp_after (Some last) None = suc last
 abbrev pub stamp_from : Option ℕ → List (List Action) → Option ℕ
 stamp_from last [] = last
 stamp_from last (commit ∷ more) = stamp_from (Some (stamp_after last (stamp_in commit))) more
+
+-- the stamps of all these commits
+abbrev pub stamps_from : Option ℕ → List (List Action) → List ℕ
+stamps_from last [] = []
+stamps_from last (commit ∷ more) = stamp_after last (stamp_in commit) ∷ stamps_from (Some (stamp_after last (stamp_in commit))) more

@@ -109,8 +109,8 @@ applied t version commit = record {
   actions = actions_after t.actions commit;
 }
 
--- a stamp is at most one for each version above 2^63 - 2^21
+-- a stamp is at most one for each version above 2^63 - 2^21, and at most 2^63
 abbrev pub IsInRange : Option ℕ → Option ℕ → Type 0
 IsInRange version None = Unit {0}
 IsInRange None (Some stamp) = ⊥
-IsInRange (Some version) (Some stamp) = stamp ≤ 2 ^ 63 - 2 ^ 21 + version
+IsInRange (Some version) (Some stamp) = (stamp ≤ 2 ^ 63 - 2 ^ 21 + version) × (stamp ≤ 2 ^ 63)

@@ -36,6 +36,13 @@ fn put<V: Drop>(map: &mut IndexMap<Text, V>, name: Text, value: V)
     }
 }
 
+/// Keeps the newer of two values.
+fn renew<V: Drop>(kept: &mut Option<V>, newer: V)
+    ensures { kept.new ≡ Some newer }
+{
+    *kept = Some(newer);
+}
+
 /// Keeps an action in place of the one on the same thing.
 #[tactic(auto, unfolding(crate::specs::Newest::newest), using(crate::proofs::Newer::by_test))]
 fn keep(kept: &mut Kept, keyed: Keyed)
@@ -46,8 +53,8 @@ fn keep(kept: &mut Kept, keyed: Keyed)
 {
     let Keyed { key, action } = keyed;
     match action {
-        Action::Protocol(protocol) => kept.protocol = Some(protocol),
-        Action::Meta(meta) => kept.meta = Some(meta),
+        Action::Protocol(protocol) => renew(&mut kept.protocol, protocol),
+        Action::Meta(meta) => renew(&mut kept.meta, meta),
         Action::Txn(txn) => {
             if let Some(app) = key {
                 put(&mut kept.txns, app, txn);

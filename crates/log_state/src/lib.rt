@@ -9,4 +9,5 @@ mod stamp;
 mod state;
 
 pub use kept::Kept;
+pub use stamp::{LAST_STAMP, stamp_after, stamp_in};
 pub use state::State;

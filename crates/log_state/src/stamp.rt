@@ -30,9 +30,10 @@ fn first_info(actions: &[Action]) -> Option<&CommitInfo>
     None
 }
 
-/// The time that a commit says of itself.
+/// The time that a commit says of itself, in milliseconds since 1970, where it is at most `LAST_STAMP`: of several
+/// actions that say something about the commit the first counts (PROTOCOL.md, "Commit Provenance Information").
 #[tactic(auto, unfolding(crate::specs::Stamps::stamp_in))]
-pub(crate) fn stamp_in(actions: &[Action]) -> Option<u64>
+pub fn stamp_in(actions: &[Action]) -> Option<u64>
     ensures value { result ≡ spec.stamp_in actions.now }
     ensures small { IfSome result (λ s. s ≤ 2 ^ 62) }
 {
@@ -41,8 +42,9 @@ pub(crate) fn stamp_in(actions: &[Action]) -> Option<u64>
         .filter(|stamp| *stamp <= LAST_STAMP)
 }
 
-/// The stamp of a commit, by that of the version before and the time that it says of itself.
-pub(crate) fn stamp_after(last: Option<u64>, said: Option<u64>) -> u64
+/// The stamp of a commit, by that of the version before and the time that it says of itself: this time, else one more
+/// than the stamp before, or 0 where none is before.
+pub fn stamp_after(last: Option<u64>, said: Option<u64>) -> u64
     requires { IfSome last (λ s. s < 2 ^ 64 - 1) }
     ensures { result ≡ spec.stamp_after last said }
 {

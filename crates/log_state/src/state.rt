@@ -1,5 +1,5 @@
 //! The table at a version.
-ghost use Rattle.std.specs.Prelude.{◌≡◌, ◌<◌, ◌≤◌, ◌-◌, ◌^◌, ◌++◌, ◌∷◌, [], List, map, Some, option_map, option_copied, OnOk, OnErr, IfOk};
+ghost use Rattle.std.specs.Prelude.{◌≡◌, ◌<◌, ◌≤◌, ◌-◌, ◌^◌, ◌++◌, ◌∷◌, [], List, map, Some, IfSome, option_map, option_copied, OnOk, OnErr, IfOk};
 ghost use Rattle.log_actions.specs.declared.action.Action.{Action as ActionValue};
 ghost use Rattle.log_state.specs.Listed.{AreLive, AreTombstones, AreTxns};
 ghost use Rattle.log_state.specs.Table.{applied, IsTableOf, IsApplied, Reconciles, next_version, txn_of};
@@ -103,8 +103,10 @@ impl State {
     }
 
     /// The stamp of the version, in milliseconds since 1970.
+    #[tactic(auto, using(crate::proofs::Tables::at_most))]
     pub fn stamp(&self) -> Option<u64>
-        ensures { result ≡ self.now.stamp }
+        ensures value { result ≡ self.now.stamp }
+        ensures small { IfSome result (λ s. s ≤ 2 ^ 63) }
     {
         self.stamp
     }

@@ -1,5 +1,6 @@
 -- What a commit says, sorted out of its actions (PROTOCOL.md, "Actions").
 use Rattle.std.specs.Prelude.{◌≡◌, ℕ, Bool, false, List, [], ◌∷◌, ◌++◌, Option, Some, None}
+use Rattle.std.specs.Option.{option_or}
 use Rattle.log_actions.specs.declared.action.CommitInfo.{CommitInfo}
 use Rattle.log_actions.specs.declared.action.MetaData.{MetaData}
 use Rattle.log_actions.specs.declared.action.Protocol.{Protocol as ProtocolValue}
@@ -16,15 +17,10 @@ pub record Commit : Type 0 where
   pub txns : List (List ℕ × ℕ)
   pub lines : List FileLine
 
--- the newest counts
+-- the newer of two, where there is a newer one
 abbrev pub newer : {A : Type 0} → Option A → Option A → Option A
 newer old None = old
 newer old (Some new) = Some new
-
--- the first counts
-abbrev pub or_later : {A : Type 0} → Option A → Option A → Option A
-or_later None later = later
-or_later (Some first) later = Some first
 
 abbrev pub nothing_said : Commit
 nothing_said = record { info = None; protocol = None; meta = None; txns = []; lines = [] }
@@ -58,10 +54,10 @@ info_is_blind (Some i) = calls_blind i.is_blind_append
 abbrev pub is_blind : Commit → Bool
 is_blind t = info_is_blind t.info
 
--- a part of a commit before the rest
+-- a part of a commit before the rest. Of what is said about the commit itself the first counts
 abbrev pub before : Commit → Commit → Commit
 before s t = record {
-  info = or_later s.info t.info;
+  info = option_or s.info t.info;
   protocol = newer s.protocol t.protocol;
   meta = newer s.meta t.meta;
   txns = s.txns ++ t.txns;

@@ -49,4 +49,4 @@ invariant_of-self-2 c =
     let new = c.keep_all.new.kept in
     let at : stamp ≡ stamp_after s.stamp said = search rules in
     let next : c.args.version ≡ next_version s.version = subst (λ (t : Table). c.args.version ≡ next_version t.version) (sym c.self.view_is) c.requires.next in
-    subst (λ n. IsState (Some c.args.version) (Some n) new) (sym at) (next_state s.version s.stamp said s.kept new c.args.version c.args.actions.items c.self.invariant c.stamp_in.ensures.small next c.in_ok-keep_all.ensures.ok)
+    subst (λ n. IsState (Some c.args.version) (Some n) new) (sym at) (next_state s.version s.stamp said s.kept new c.args.version c.args.actions.items c.self.invariant c.stamp_in.ensures.small next c.requires.few c.in_ok-keep_all.ensures.ok)

@@ -1,4 +1,5 @@
-use Rattle.std.proofs.Common.{◌≤◌, ◌-◌, ◌+◌, ◌^◌, Some, arith}
+use Rattle.std.proofs.Common.{Some, arith}
+use Rattle.log_state.specs.Table.{IsInRange}
 use Rattle.log_state.proofs.Owns.{state_of_parts}
 use Rattle.log_state.proofs.Tables.{from_nothing}
 use Rattle.log_state.proofs.state.State.of_parts.Goals as goal
@@ -11,5 +12,5 @@ returns-clause-reconciled c =
 pub invariant_of-result : goal.invariant_of-result
 invariant_of-result c =
     let k = c.nothing_kept-kept in
-    let range : c.args.stamp ≤ 2 ^ 63 - 2 ^ 21 + c.args.version = omega (arith, c.requires) in
+    let range : IsInRange (Some c.args.version) (Some c.args.stamp) = (omega (arith, c.requires), omega (arith, c.requires)) in
     state_of_parts k.result c.keep_all.new.kept c.args.actions.items c.args.version c.args.stamp k.ensures.txns k.ensures.actions c.in_ok-keep_all.ensures.ok range
