@@ -30,13 +30,13 @@ const THIRD: &str =
 
 /// What a table should have: the sizes of its files, the lengths of the paths of removed ones, and the versions of
 /// applications, each in byte order of the texts that they stand under.
-struct Wanted {
-    version: u64,
-    stamp: u64,
-    id: &'static str,
-    files: &'static [u64],
-    tombstones: &'static [usize],
-    txns: &'static [u64],
+pub(crate) struct Wanted {
+    pub version: u64,
+    pub stamp: u64,
+    pub id: &'static str,
+    pub files: &'static [u64],
+    pub tombstones: &'static [usize],
+    pub txns: &'static [u64],
 }
 
 const AFTER_FIRST: Wanted = Wanted {
@@ -135,7 +135,7 @@ fn has_lists(alloc: Global, state: &State, wanted: &Wanted) -> bool {
         && has_txns(alloc, state, wanted.txns)
 }
 
-fn is_wanted(alloc: Global, state: &State, wanted: &Wanted) -> bool {
+pub(crate) fn is_wanted(alloc: Global, state: &State, wanted: &Wanted) -> bool {
     has_stamp(state, wanted.version, wanted.stamp)
         && has_id(state, wanted.id)
         && has_lists(alloc, state, wanted)

@@ -1,0 +1,10 @@
+pub mod Ordered
+pub mod Commits
+pub mod Replay
+pub mod Versions
+pub mod Listings
+pub mod Applied
+pub mod Written
+pub mod Stamps
+pub mod Reading
+pub mod Example

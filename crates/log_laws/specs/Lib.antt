@@ -1,0 +1,4 @@
+pub mod Replay
+pub mod Written
+pub mod Versions
+pub mod Example

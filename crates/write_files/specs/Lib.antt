@@ -1,0 +1,5 @@
+pub mod Order
+pub mod Pieces
+pub mod Files
+pub mod Phase
+pub mod Laws
