@@ -23,11 +23,6 @@ struct Object {
     text: &'static str,
 }
 
-/// An object without bytes.
-const fn nothing_under(name: &'static str) -> Object {
-    Object { name, text: "" }
-}
-
 /// Lines in another order than this engine writes, with foreign members, a foreign action and blank lines.
 const FIRST: Object = Object {
     name: "_delta_log/00000000000000000000.json",
@@ -57,12 +52,21 @@ const THIRD: Object = Object {
 "#,
 };
 
-const FOURTH: Object = nothing_under("_delta_log/00000000000000000003.json");
+const FOURTH: Object = Object {
+    name: "_delta_log/00000000000000000003.json",
+    text: "",
+};
 
 /// What isn't a commit's: a checkpoint, and names that only resemble one.
-const CHECKPOINT: Object = nothing_under("_delta_log/00000000000000000001.checkpoint.x.json");
+const CHECKPOINT: Object = Object {
+    name: "_delta_log/00000000000000000001.checkpoint.x.json",
+    text: "",
+};
 
-const OTHER: Object = nothing_under("_delta_log/00000000000000000009.json.tmp");
+const OTHER: Object = Object {
+    name: "_delta_log/00000000000000000009.json.tmp",
+    text: "",
+};
 
 const DAMAGED: Object = Object {
     name: "_delta_log/00000000000000000001.json",
@@ -74,7 +78,10 @@ const ABSOLUTE: Object = Object {
     text: "\n{\"remove\":{\"path\":\"/b\",\"dataChange\":true}}\n",
 };
 
-const GREAT: Object = nothing_under("_delta_log/00000000000001048576.json");
+const GREAT: Object = Object {
+    name: "_delta_log/00000000000001048576.json",
+    text: "",
+};
 
 const AFTER_FIRST: Wanted = Wanted {
     version: 0,
