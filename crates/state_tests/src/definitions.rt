@@ -33,7 +33,7 @@ enum Outcome {
     NoMemory,
 }
 
-fn outcome_of(defined: Result<Definition, DefinitionFault>) -> Outcome {
+fn ending(defined: Result<Definition, DefinitionFault>) -> Outcome {
     match defined {
         Ok(_) => Outcome::Defined,
         Err(DefinitionFault::Table) => Outcome::Table,
@@ -47,22 +47,22 @@ fn actions(alloc: Global, text: &str) -> Result<Vec<Action>, NoMemory> {
 }
 
 /// What the table that a commit makes comes to.
-fn outcome(alloc: Global, text: &str) -> Outcome {
+fn ending_of(alloc: Global, text: &str) -> Outcome {
     let mut state = State::new(alloc);
     let made = match actions(alloc, text) {
         Ok(actions) => state.apply(0, actions),
         Err(fault) => Err(fault),
     };
     match made {
-        Ok(()) => outcome_of(definition_of(alloc, state.protocol(), state.meta())),
+        Ok(()) => ending(definition_of(alloc, state.protocol(), state.meta())),
         Err(_) => Outcome::NoMemory,
     }
 }
 
 #[test]
 fn tables_are_defined(rt: HostRuntime) {
-    assert!(rt; outcome(rt.alloc(), TABLE) == Outcome::Defined);
-    assert!(rt; outcome(rt.alloc(), ASKING) == Outcome::Asked);
-    assert!(rt; outcome(rt.alloc(), NO_SCHEMA) == Outcome::Table);
-    assert!(rt; outcome(rt.alloc(), NO_PROTOCOL) == Outcome::Table);
+    assert!(rt; ending_of(rt.alloc(), TABLE) == Outcome::Defined);
+    assert!(rt; ending_of(rt.alloc(), ASKING) == Outcome::Asked);
+    assert!(rt; ending_of(rt.alloc(), NO_SCHEMA) == Outcome::Table);
+    assert!(rt; ending_of(rt.alloc(), NO_PROTOCOL) == Outcome::Table);
 }
