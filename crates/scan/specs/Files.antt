@@ -1,5 +1,5 @@
 -- Which of a table's live files a scan gets, and what it reads of each.
-use Rattle.std.specs.Prelude.{ℕ, ◌+◌, if◌then◌else◌, List, [], ◌∷◌, ◌++◌, map, length, Option, Some, None, Result, Ok, Err}
+use Rattle.std.specs.Prelude.{ℕ, ◌+◌, if◌then◌else◌, List, [], ◌∷◌, ◌++◌, map, length, Option, Some, None, Result, Ok}
 use Rattle.log_actions.specs.declared.action.AddFile.{AddFile}
 use Rattle.row_base.specs.Faults.{◌>>=◌}
 use Rattle.row_base.specs.Schema.{TableSchema, is_partition_column}

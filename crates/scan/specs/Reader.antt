@@ -1,5 +1,5 @@
 -- The files of a scan as they are read, in the words of what they stand for.
-use Rattle.std.specs.Prelude.{ℕ, List, Option, Result, Ok, Err}
+use Rattle.std.specs.Prelude.{ℕ, List, Option, Result}
 use Rattle.parquet_meta.specs.declared.fault.FileFault.{FileFault}
 use Rattle.call_phases.specs.Views.{result_by}
 use Rattle.scan.specs.declared.reader.FilesToGet.{FilesToGet}
