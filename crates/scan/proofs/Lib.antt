@@ -1,0 +1,2 @@
+mod Wanting
+mod Ends

@@ -1,0 +1,5 @@
+pub mod Faults
+pub mod Files
+pub mod Scans
+pub mod Reader
+pub mod Machine
