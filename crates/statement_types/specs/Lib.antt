@@ -1,0 +1,2 @@
+pub use Rattle.log_actions.specs.declared.fault
+pub mod Literals
