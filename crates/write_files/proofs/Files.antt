@@ -1,5 +1,5 @@
 -- New files and their adds.
-use Rattle.std.proofs.Common.{◌≡◌, ℕ, suc, ◌+◌, List, [], ◌∷◌, ◌++◌, length, refl, sym, subst, ap, ◌∙◌, arith, append_assoc}
+use Rattle.std.proofs.Common.{◌≡◌, Bool, ℕ, suc, ◌+◌, List, [], ◌∷◌, ◌++◌, length, refl, sym, subst, ap, ◌∙◌, arith, append_assoc}
 use Rattle.std.specs.List.{All, AllByRecursion}
 use Rattle.std.proofs.lemmas.List.Elements.{All-from_recursion, recursion_from_All}
 use Rattle.edge_api.specs.declared.call.Tag.{Tag}
@@ -7,7 +7,7 @@ use Rattle.row_base.specs.declared.row.Datum.{Datum}
 use Rattle.row_base.specs.Schema.{TableSchema, FitsSchema}
 use Rattle.schema_text.specs.PartitionWritten.{HasText}
 use Rattle.write_files.specs.Pieces.{pieces_of}
-use Rattle.write_files.specs.Files.{CanBeWritten, files_from}
+use Rattle.write_files.specs.Files.{CanBeWritten, files_from, adds_from}
 use Rattle.write_files.proofs.Parts.{Within, each_row, each_within, each_both, each_weaker}
 
 -- the rows of each file can be written
@@ -25,6 +25,10 @@ can_be_written s rows pieces e fits texts =
 pub files_length : (s : TableSchema) (tag : Tag) (start part : ℕ) (pieces : List (List (List Datum))) → length (files_from s tag start part pieces) ≡ length pieces
 files_length s tag start part [] = refl
 files_length s tag start part (p ∷ ps) = ap suc (files_length s tag start (part + 1) ps)
+
+pub adds_length : (s : TableSchema) (tag : Tag) (start : ℕ) (change : Bool) (part : ℕ) (pieces : List (List (List Datum))) → length (adds_from s tag start change part pieces) ≡ length pieces
+adds_length s tag start change part [] = refl
+adds_length s tag start change part (p ∷ ps) = ap suc (adds_length s tag start change (part + 1) ps)
 
 -- a loop's step: of one more part, what is made goes behind the others
 pub part_step : {A P : Type 0} (from : ℕ → List P → List A) (one : ℕ → P → A) → ((n : ℕ) (p : P) (ps : List P) → from n (p ∷ ps) ≡ one n p ∷ from (n + 1) ps)

@@ -1,5 +1,5 @@
 //! New data files and the actions that add them.
-ghost use Rattle.std.specs.Prelude.{◌≡◌, ◌+◌, ◌≤◌, length, None, IfOk};
+ghost use Rattle.std.specs.Prelude.{◌≡◌, ◌+◌, ◌≤◌, ◌<◌, ◌^◌, length, None, IfOk};
 ghost use Rattle.std.specs.List.{All};
 ghost use Rattle.row_base.specs.declared.limits.TheConstants.{MAX_FILE_ROWS, MAX_OBJECT_BYTES};
 ghost use Rattle.row_base.specs.Schema.{FitsSchema};
@@ -129,7 +129,8 @@ impl NewFile {
 /// The number of the part that follows so many from this one on. One past 32 bits is refused as one for which no memory
 /// is left.
 fn part_after(first: u32, count: usize) -> Result<u32, NoMemory>
-    ensures { IfOk result (λ p. p ≡ first + count) }
+    ensures value { IfOk result (λ p. p ≡ first + count) }
+    ensures small { IfOk result (λ p. p < 2 ^ 32) }
 {
     match u32::try_from(count) {
         Ok(count) => first.checked_add(count).ok_or(NoMemory),
@@ -150,6 +151,7 @@ impl NewFiles {
         ensures files { IfOk result (λ n. n.files.items ≡ spec.files_from schema.now origin.tag origin.start first pieces.items) }
         ensures adds { IfOk result (λ n. n.adds.items ≡ spec.adds_from schema.now origin.tag origin.start origin.change first pieces.items) }
         ensures readable { IfOk result (λ n. All spec.IsReadable n.adds.items) }
+        ensures few { IfOk result (λ n. length n.adds.items ≤ 2 ^ 32) }
     {
         let count = pieces.len();
         let mut files = VecDeque::with_capacity(alloc, count)?;

@@ -1,5 +1,5 @@
 //! New rows are put as data files.
-ghost use Rattle.std.specs.Prelude.{◌≡◌, ◌≤◌, length, List, IfOk};
+ghost use Rattle.std.specs.Prelude.{◌≡◌, ◌≤◌, ◌^◌, length, List, IfOk};
 ghost use Rattle.std.specs.List.{All};
 ghost use Rattle.row_base.specs.Schema.{FitsSchema};
 ghost use Rattle.schema_text.specs.PartitionWritten.{HasText};
@@ -8,7 +8,7 @@ ghost use Rattle.call_phases.specs.Phases.{Entries};
 ghost use Rattle.call_phases.specs.Ending.{Ending};
 ghost use Rattle.call_phases.specs.declared.puts.PutFault.{PutFault as AFault};
 ghost use Rattle.write_files.specs.Pieces.{pieces_of};
-ghost use Rattle.write_files.specs.Files.{IsReadable};
+ghost use Rattle.write_files.specs.Files.{IsReadable, adds_from};
 ghost use Rattle.write_files.specs.Phase as spec;
 
 use crate::file::{NewFiles, Origin};
@@ -52,6 +52,8 @@ impl WriteOut {
         ensures begins { IfOk result (λ w. (es : Entries) (o : Ending AFault (List AnAdd)) → spec.RestOf w es o → spec.WritesOut schema.now rows tag start first change es o) }
         ensures most { IfOk result (λ w. spec.left_of w ≤ length (pieces_of schema.now rows)) }
         ensures readable { IfOk result (λ w. All IsReadable w.adds) }
+        ensures adds { IfOk result (λ w. w.adds ≡ adds_from schema.now tag start change first (pieces_of schema.now rows)) }
+        ensures few { IfOk result (λ w. length (pieces_of schema.now rows) ≤ 2 ^ 32) }
     {
         let pieces = pieces_of(alloc, schema, rows)?;
         let origin = Origin { tag, start, change };

@@ -11,7 +11,7 @@ loop-rows-preserved c =
     let o = c.args.origin in
     let l = c.loop-rows in
     let steps = c.in-Some.ensures.steps in
-    let at : c.in_ok-part.part ≡ c.args.first + length l.adds.items = omega (arith, c.in_ok-part.ensures, c.len.ensures) in
+    let at : c.in_ok-part.part ≡ c.args.first + length l.adds.items = omega (arith, c.in_ok-part.ensures.value, c.len.ensures) in
     let counted = ap length c.in_ok-push.ensures.items ∙ length-append l.adds.items (c.in_ok-file.field-0.add ∷ []) in
     record {
       files =
@@ -25,5 +25,6 @@ loop-rows-preserved c =
           steps.0 at counted c.in_ok-file.ensures.add c.in_ok-push.ensures.items
           ∙ l.invariant.adds;
       readable = subst (All IsReadable) (sym c.in_ok-push.ensures.items) (All-push IsReadable l.adds.items c.in_ok-file.field-0.add l.invariant.readable c.in_ok-file.ensures.readable);
+      few = omega (arith, c.in_ok-part.ensures.small, c.in_ok-part.ensures.value, c.len.ensures, counted);
       fits = All-rest (CanBeWritten s) c.in-Some.rows c.next.new.self.rest.items l.rows-iterator.rest.items steps.0 l.invariant.fits;
     }
