@@ -1,0 +1,5 @@
+mod Literals
+mod Partitions
+mod Stages
+mod Chain
+pub mod Places
