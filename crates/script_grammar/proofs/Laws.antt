@@ -10,7 +10,8 @@ use Rattle.script_tokens.specs.declared.token.Token.{Token}
 use Rattle.script_tokens.specs.declared.token.Token.TheVariants.{Word, Number, Text, Symbol}
 use Rattle.script_tokens.specs.declared.token.Symbol.TheVariants.{Open, Close, Comma, Equal, NotEqual, Less, AtMost, Greater, AtLeast, Plus, Minus, Star, Dot}
 use Rattle.script_grammar.specs.Names.{is_name}
-use Rattle.script_grammar.specs.Shape.{Shape, nothing, a_number, a_name, a_literal, after, before, parens, both, listed, maybe, choice, Value, literal_tokens, is_literal, comma_before, separated, spell, word_at, name_at, number_at, literal_at, open_at, close_at, comma_at, or_else, more_at, many_at, read, FitsMore, FitsMany, Fits}
+use Rattle.script_grammar.proofs.Data.{takes_text, again_text, takes_datum, again_datum}
+use Rattle.script_grammar.specs.Shape.{Shape, nothing, a_number, a_name, a_literal, a_text, a_datum, after, before, parens, assigned, both, listed, maybe, choice, Value, literal_tokens, is_literal, comma_before, separated, spell, word_at, name_at, number_at, literal_at, equal_at, open_at, close_at, comma_at, or_else, more_at, many_at, read, FitsMore, FitsMany, Fits}
 
 abbrev pub Tokens : Type 0
 Tokens = List Token
@@ -99,6 +100,25 @@ comma_is [] r e = absurd cc
 comma_is (Word w ∷ ts) r e = absurd cc
 comma_is (Number n ∷ ts) r e = absurd cc
 comma_is (Text t ∷ ts) r e = absurd cc
+
+equal_is : (ts r : Tokens) → equal_at ts ≡ Some r → ts ≡ Symbol Equal ∷ r
+equal_is (Symbol Equal ∷ ts) r e = cc
+equal_is (Symbol Open ∷ ts) r e = absurd cc
+equal_is (Symbol Close ∷ ts) r e = absurd cc
+equal_is (Symbol Comma ∷ ts) r e = absurd cc
+equal_is (Symbol NotEqual ∷ ts) r e = absurd cc
+equal_is (Symbol Less ∷ ts) r e = absurd cc
+equal_is (Symbol AtMost ∷ ts) r e = absurd cc
+equal_is (Symbol Greater ∷ ts) r e = absurd cc
+equal_is (Symbol AtLeast ∷ ts) r e = absurd cc
+equal_is (Symbol Plus ∷ ts) r e = absurd cc
+equal_is (Symbol Minus ∷ ts) r e = absurd cc
+equal_is (Symbol Star ∷ ts) r e = absurd cc
+equal_is (Symbol Dot ∷ ts) r e = absurd cc
+equal_is [] r e = absurd cc
+equal_is (Word w ∷ ts) r e = absurd cc
+equal_is (Number n ∷ ts) r e = absurd cc
+equal_is (Text t ∷ ts) r e = absurd cc
 
 -- ---- items behind commas
 
@@ -189,6 +209,15 @@ module _ {A : Type 0} (f : Tokens → Option (A × Tokens)) (g : A → Tokens) (
     again = λ v rest h. rw (append_assoc (g v) (Symbol Close ∷ []) rest, law.again v (Symbol Close ∷ rest) h) refl;
   }
 
+  pub assigned_law : Law {A = A} (λ ts. equal_at ts >>= λ r. f r) (λ v. Symbol Equal ∷ g v) fit
+  assigned_law = record {
+    takes = λ ts x e.
+        let a = bind_some (equal_at ts) (λ r. f r) x e in
+        let one = law.takes a.0 x a.2 in
+        (equal_is ts a.0 a.1 ∙ ap (λ (u : Tokens). Symbol Equal ∷ u) one.0, one.1);
+    again = λ v rest h. law.again v rest h;
+  }
+
   pub many_law : Law {A = List A} (many_at f) (separated g) (FitsMany g fit)
   many_law = record { takes = many_takes; again = many_again }
 
@@ -271,9 +300,12 @@ law nothing = record { takes = λ ts x e. (ap (λ (y : Unit {0} × Tokens). y.1)
 law a_number = record { takes = takes_number; again = λ v rest h. refl }
 law a_name = record { takes = takes_name; again = λ v rest h. rw h refl }
 law a_literal = record { takes = takes_literal; again = again_literal }
+law a_text = record { takes = takes_text; again = again_text }
+law a_datum = record { takes = takes_datum; again = again_datum }
 law (after w s) = after_law (read s) (spell s) (Fits s) (law s) w
 law (before s w) = before_law (read s) (spell s) (Fits s) (law s) w
 law (parens s) = parens_law (read s) (spell s) (Fits s) (law s)
+law (assigned s) = assigned_law (read s) (spell s) (Fits s) (law s)
 law (both s t) = both_law (read s) (spell s) (Fits s) (law s) (read t) (spell t) (Fits t) (law t)
 law (listed s) = many_law (read s) (spell s) (Fits s) (law s)
 law (maybe w s) = record { takes = takes_maybe w s (law s); again = again_maybe w s (law s) }

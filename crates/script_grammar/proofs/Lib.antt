@@ -1,3 +1,4 @@
+pub mod Data
 pub mod Laws
 pub mod Loop
 pub mod Whole

@@ -1,23 +1,27 @@
 -- The shapes of the grammar: what a shape stands for, which tokens spell it, and how tokens are read.
-use Rattle.std.specs.Prelude.{◌≡◌, ℕ, zero, suc, ℤ, Bool, true, false, List, [], ◌∷◌, ◌++◌, length, Option, Some, None, ◌⊎◌, if◌then◌else◌, ◌==◌}
-use Rattle.std.specs.Str.{bytes_eq}
+use Rattle.std.specs.Prelude.{◌≡◌, ℕ, zero, suc, ℤ, Bool, true, false, List, [], ◌∷◌, ◌++◌, length, Option, Some, None, ◌⊎◌, if◌then◌else◌, ◌==◌, codes}
+use Rattle.std.specs.Str.{bytes_eq, is_utf8}
 use Rattle.std.proofs.Common.{inl, inr}
 use Rattle.row_base.specs.Readings.{◌>>=◌}
 use Rattle.script_tokens.specs.declared.token.Token.{Token}
-use Rattle.script_tokens.specs.declared.token.Token.TheVariants.{Word, Number, Symbol}
-use Rattle.script_tokens.specs.declared.token.Symbol.TheVariants.{Open, Close, Comma}
+use Rattle.script_tokens.specs.declared.token.Token.TheVariants.{Word, Number, Text, Symbol}
+use Rattle.script_tokens.specs.declared.token.Symbol.TheVariants.{Open, Close, Comma, Equal}
 use Rattle.row_base.specs.declared.row.Datum.{Datum}
 use Rattle.row_base.specs.declared.row.Datum.TheVariants as datum
+use Rattle.row_base.specs.Dates.{IsDayNumber, date_in, text_of_day}
 use Rattle.script_grammar.specs.Names.{is_name}
 
 pub data Shape : Type 0 where
   nothing : Shape  -- no token
   a_number : Shape
   a_name : Shape
-  a_literal : Shape  -- a datum
+  a_literal : Shape  -- a number as a datum
+  a_text : Shape  -- a text in quotes
+  a_datum : Shape  -- a literal of any kind
   after : List ℕ → Shape → Shape  -- a word, then the shape
   before : Shape → List ℕ → Shape  -- the shape, then a word
   parens : Shape → Shape  -- the shape between ( and )
+  assigned : Shape → Shape  -- =, then the shape
   both : Shape → Shape → Shape  -- one, then the other
   listed : Shape → Shape  -- one or more, with commas between them
   maybe : List ℕ → Shape → Shape  -- nothing, or a word and the shape
@@ -29,9 +33,12 @@ Value nothing = Unit {0}
 Value a_number = ℤ
 Value a_name = List ℕ
 Value a_literal = Datum
+Value a_text = List ℕ
+Value a_datum = Datum
 Value (after w s) = Value s
 Value (before s w) = Value s
 Value (parens s) = Value s
+Value (assigned s) = Value s
 Value (both s t) = Value s × Value t
 Value (listed s) = List (Value s)
 Value (maybe w s) = Option (Value s)
@@ -54,6 +61,25 @@ is_literal (datum.Boolean b) = false
 is_literal (datum.Text t) = false
 is_literal (datum.Date d) = false
 
+-- the tokens of a literal of any kind; a number of 32 bits has none
+abbrev pub datum_tokens : Datum → List Token
+datum_tokens datum.Null = Word (codes "null") ∷ []
+datum_tokens (datum.Long n) = Number n ∷ []
+datum_tokens (datum.Integer n) = []
+datum_tokens (datum.Boolean true) = Word (codes "true") ∷ []
+datum_tokens (datum.Boolean false) = Word (codes "false") ∷ []
+datum_tokens (datum.Text t) = Text t ∷ []
+datum_tokens (datum.Date n) = Word (codes "date") ∷ Text (text_of_day n) ∷ []
+
+-- there is a literal of the datum: a text is UTF-8, and a date is of the years 1 to 9999
+abbrev pub HasLiteral : Datum → Type 0
+HasLiteral datum.Null = Unit {0}
+HasLiteral (datum.Long n) = Unit {0}
+HasLiteral (datum.Integer n) = ⊥
+HasLiteral (datum.Boolean b) = Unit {0}
+HasLiteral (datum.Text t) = is_utf8 t ≡ true
+HasLiteral (datum.Date n) = IsDayNumber n
+
 abbrev pub comma_before : {A : Type 0} → (A → List Token) → List A → List Token
 comma_before f [] = []
 comma_before f (v ∷ vs) = Symbol Comma ∷ (f v ++ comma_before f vs)
@@ -68,9 +94,12 @@ spell nothing v = []
 spell a_number n = Number n ∷ []
 spell a_name v = Word v ∷ []
 spell a_literal d = literal_tokens d
+spell a_text t = Text t ∷ []
+spell a_datum d = datum_tokens d
 spell (after w s) v = Word w ∷ spell s v
 spell (before s w) v = spell s v ++ Word w ∷ []
 spell (parens s) v = Symbol Open ∷ (spell s v ++ Symbol Close ∷ [])
+spell (assigned s) v = Symbol Equal ∷ spell s v
 spell (both s t) v = spell s v.0 ++ spell t v.1
 spell (listed s) vs = separated (spell s) vs
 spell (maybe w s) None = []
@@ -95,6 +124,40 @@ number_at _ = None
 abbrev pub literal_at : List Token → Option (Datum × List Token)
 literal_at (Number n ∷ ts) = Some (datum.Long n, ts)
 literal_at _ = None
+
+abbrev pub utf8_text : List ℕ → Option (List ℕ)
+utf8_text t = if is_utf8 t then Some t else None
+
+abbrev pub text_at : List Token → Option (List ℕ × List Token)
+text_at (Text t ∷ ts) = utf8_text t >>= λ u. Some (u, ts)
+text_at _ = None
+
+-- a day, of a text as yyyy-MM-dd
+abbrev pub day_at : List Token → Option (Datum × List Token)
+day_at ts = text_at ts >>= λ x. date_in x.0 >>= λ n. Some (datum.Date n, x.1)
+
+-- the literal that begins with a word
+abbrev pub date_datum : List ℕ → List Token → Option (Datum × List Token)
+date_datum w ts = if bytes_eq w (codes "date") then day_at ts else None
+
+abbrev pub false_datum : List ℕ → List Token → Option (Datum × List Token)
+false_datum w ts = if bytes_eq w (codes "false") then Some (datum.Boolean false, ts) else date_datum w ts
+
+abbrev pub true_datum : List ℕ → List Token → Option (Datum × List Token)
+true_datum w ts = if bytes_eq w (codes "true") then Some (datum.Boolean true, ts) else false_datum w ts
+
+abbrev pub named_datum : List ℕ → List Token → Option (Datum × List Token)
+named_datum w ts = if bytes_eq w (codes "null") then Some (datum.Null, ts) else true_datum w ts
+
+abbrev pub datum_at : List Token → Option (Datum × List Token)
+datum_at (Number n ∷ ts) = Some (datum.Long n, ts)
+datum_at (Text t ∷ ts) = utf8_text t >>= λ u. Some (datum.Text u, ts)
+datum_at (Word w ∷ ts) = named_datum w ts
+datum_at _ = None
+
+abbrev pub equal_at : List Token → Option (List Token)
+equal_at (Symbol Equal ∷ ts) = Some ts
+equal_at _ = None
 
 abbrev pub open_at : List Token → Option (List Token)
 open_at (Symbol Open ∷ ts) = Some ts
@@ -126,9 +189,12 @@ read nothing ts = Some (tt, ts)
 read a_number ts = number_at ts
 read a_name ts = name_at ts
 read a_literal ts = literal_at ts
+read a_text ts = text_at ts
+read a_datum ts = datum_at ts
 read (after w s) ts = word_at w ts >>= λ r. read s r
 read (before s w) ts = read s ts >>= λ x. word_at w x.1 >>= λ r. Some (x.0, r)
 read (parens s) ts = open_at ts >>= λ r. read s r >>= λ x. close_at x.1 >>= λ q. Some (x.0, q)
+read (assigned s) ts = equal_at ts >>= λ r. read s r
 read (both s t) ts = read s ts >>= λ x. read t x.1 >>= λ y. Some ((x.0, y.0), y.1)
 read (listed s) ts = many_at (read s) ts
 read (maybe w s) ts = or_else (word_at w ts) (λ r. read s r >>= λ x. Some (Some x.0, x.1)) (Some (None, ts))
@@ -149,9 +215,12 @@ Fits nothing v rest = Unit {0}
 Fits a_number v rest = Unit {0}
 Fits a_name v rest = is_name v ≡ true
 Fits a_literal d rest = is_literal d ≡ true
+Fits a_text t rest = is_utf8 t ≡ true
+Fits a_datum d rest = HasLiteral d
 Fits (after w s) v rest = Fits s v rest
 Fits (before s w) v rest = Fits s v (Word w ∷ rest)
 Fits (parens s) v rest = Fits s v (Symbol Close ∷ rest)
+Fits (assigned s) v rest = Fits s v rest
 Fits (both s t) v rest = Fits s v.0 (spell t v.1 ++ rest) × Fits t v.1 rest
 Fits (listed s) vs rest = FitsMany (spell s) (Fits s) vs rest
 Fits (maybe w s) None rest = word_at w rest ≡ None

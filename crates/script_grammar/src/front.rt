@@ -78,7 +78,7 @@ pub fn take_number<'a, 'b>(tokens: &'a [Token<'b>]) -> Result<(i64, &'a [Token<'
     }
 }
 
-/// The literal at the front, and what follows it. A literal is a number.
+/// The number at the front as a datum, and what follows it.
 pub fn take_literal<'a, 'b>(tokens: &'a [Token<'b>]) -> Result<(Datum, &'a [Token<'b>]), ParseError>
     ensures { Gives (λ x. (x.0, x.1.now)) result (literal_at tokens.now) }
 {
