@@ -7,7 +7,6 @@ use Rattle.row_base.specs.Faults.{◌>>=◌}
 use Rattle.row_base.specs.Schema.{TableSchema, settled, settled_datum, narrowed_number, row_fault}
 use Rattle.row_base.specs.declared.row.Datum.{Datum}
 use Rattle.row_base.specs.declared.row.Datum.TheVariants as datum
-use Rattle.row_base.specs.declared.row.Kind.{Kind}
 use Rattle.row_base.specs.declared.schema.Column.{Column}
 use Rattle.schema_text.specs.PartitionWritten.{HasText}
 use Rattle.statement_types.specs.Literals.{IsLiteral, AreLiterals}

@@ -1,5 +1,5 @@
 -- How statements begin.
-use Rattle.std.proofs.Common.{◌≡◌, ◌⊎◌, inl, inr, ℕ, [], ◌∷◌, subst}
+use Rattle.std.proofs.Common.{◌≡◌, inl, inr, ℕ, [], ◌∷◌, subst}
 use Rattle.std.specs.Prelude.{Option, Some, None}
 use Rattle.edge_api.specs.declared.call.Tag.{Tag}
 use Rattle.edge_api.specs.declared.call.JournalEntry.{JournalEntry}

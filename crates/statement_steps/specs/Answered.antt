@@ -1,5 +1,5 @@
 -- Which outcomes a statement may have by the entries that it made: the chain of its phases.
-use Rattle.std.specs.Prelude.{◌≡◌, ℕ, ◌+◌, ◌^◌, ◌≤◌, nat_lt, true, false, List, [], ◌∷◌, ◌++◌, length, Option, Some, None, Ok, MatchOption, MatchBool, MatchResult}
+use Rattle.std.specs.Prelude.{◌≡◌, ℕ, ◌+◌, ◌^◌, ◌≤◌, nat_lt, true, false, List, [], ◌∷◌, ◌++◌, length, Option, Some, None, Ok, MatchBool, MatchResult}
 use Rattle.std.specs.List.{All}
 use Rattle.edge_api.specs.declared.call.Tag.{Tag}
 use Rattle.edge_api.specs.declared.call.Listed.{Listed}
@@ -23,7 +23,6 @@ use Rattle.table_definition.specs.declared.definition.Definition.{Definition}
 use Rattle.commit_plans.specs.Made.{made_metadata}
 use Rattle.commit_plans.specs.Plans.{table_plan, insert_plan}
 use Rattle.commit_plans.specs.Properties.{made_properties}
-use Rattle.commit_plans.specs.declared.plan.CommitPlan.{CommitPlan}
 use Rattle.statement_types.specs.declared.statement.Statement.{Statement}
 use Rattle.statement_types.specs.declared.statement.Statement.TheVariants as statement
 use Rattle.statement_types.specs.declared.statement.TableSpec.{TableSpec}

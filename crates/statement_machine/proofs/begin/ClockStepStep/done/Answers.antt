@@ -1,4 +1,4 @@
-use Rattle.std.proofs.Common.{rules, ◌≡◌, [], subst}
+use Rattle.std.proofs.Common.{rules, ◌≡◌, []}
 use Rattle.std.specs.Prelude.{Some}
 use Rattle.statement_types.specs.declared.refusal.Refusal.TheVariants as refusal
 use Rattle.statement_steps.specs.Outcome.{refused}

@@ -1,8 +1,5 @@
-use Rattle.std.proofs.Common.{rules, ◌≡◌, inr, List, sym, subst}
-use Rattle.std.specs.Prelude.{Option, Some}
+use Rattle.std.proofs.Common.{rules, inr, subst}
 use Rattle.std.specs.List.{All}
-use Rattle.log_state.specs.Table.{Table}
-use Rattle.log_actions.specs.declared.action.AddFile.{AddFile}
 use Rattle.write_files.specs.Files.{IsReadable}
 use Rattle.statement_machine.proofs.insert.DataStep.appends.Goals as goal
 

@@ -1,5 +1,5 @@
-use Rattle.std.proofs.Common.{rules, ◌≡◌, ◌∙◌, ap}
-use Rattle.std.specs.Prelude.{Option, Some}
+use Rattle.std.proofs.Common.{◌≡◌, ◌∙◌, ap}
+use Rattle.std.specs.Prelude.{Some}
 use Rattle.statement_types.specs.declared.refusal.Refusal.{Refusal}
 use Rattle.statement_steps.specs.Outcome.{refused, refusal_of_load}
 use Rattle.statement_machine.proofs.Chain.{no_load}

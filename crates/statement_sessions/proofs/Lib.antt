@@ -1,0 +1,3 @@
+pub mod OpenReplies
+pub mod Sessions
+pub mod Stands

@@ -1,0 +1,6 @@
+//! Statements one after another under one actor's number.
+#![tactic(auto)]
+
+mod session;
+
+pub use session::Session;
