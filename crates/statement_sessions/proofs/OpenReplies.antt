@@ -48,7 +48,6 @@ use Rattle.statement_machine.specs.Machine.{kept_of, Rest, call_of, ByCall, ByLo
 use Rattle.snapshot_load.specs.Machine.{failed_after, loaded_after}
 use Rattle.snapshot_load.specs.Machine as load
 use Rattle.snapshot_load.specs.Readers.{wanted_commit, commits_after}
-use Rattle.snapshot_load.specs.declared.fault.LoadFailed.{LoadFailed}
 use Rattle.scan.specs.Faults.{of_get as scan_fault}
 use Rattle.scan.specs.Machine.{scanned_after}
 use Rattle.scan.specs.Machine as scan

@@ -1,4 +1,4 @@
-use Rattle.std.proofs.Common.{◌≡◌, ◌≤◌, ◌<◌, ◌+◌, ◌*◌, Bool, List, length}
+use Rattle.std.proofs.Common.{◌≡◌, ◌≤◌, ◌+◌, ◌*◌, Bool, List, length}
 use Rattle.row_base.specs.declared.limits.TheConstants.{MAX_STATEMENTS}
 use Rattle.std.specs.Prelude.{Some, None, vec_capacity}
 use Rattle.statement_types.specs.declared.reply.Reply.{Reply}
